@@ -1,0 +1,3 @@
+pub mod Records
+pub mod Parser
+pub mod Spelling
