@@ -1,0 +1,10 @@
+pub mod Bytes
+pub mod Names
+pub mod Nth
+pub mod Attributes
+pub mod Operators
+pub mod Tests
+pub mod BytesLaws
+pub mod NthLaws
+pub mod SplitLaws
+pub mod OperatorLaws

@@ -1,0 +1,209 @@
+//! Attributes: the lookup by name and the operators on values.
+use crate::bytes::is_attr_whitespace;
+use crate::bytes::same;
+use cells::at32;
+use cells::part_of;
+ghost use mathlib.Core.Path.{_≡_};
+ghost use Rattle.rules.specs.Bytes.{fold};
+ghost use Rattle.rules.specs.Attributes.{liesWithin, wellFormed, goodOutlines, findIn, lookup, attributesOf, isThere};
+ghost use Rattle.rules.specs.Operators.{equalHolds, beginsWith, prefixHolds, suffixHolds, dashHolds, substringHolds, includesHolds, operatorHolds, valueHolds};
+
+// Where the value of an attribute stands in the input.
+pub enum Found {
+    At(usize, usize),
+    Nothing,
+}
+
+pub enum Operator {
+    Equal,
+    Includes,
+    Dash,
+    Prefix,
+    Suffix,
+    Substring,
+}
+
+// No start past its end, no end past `size`.
+pub fn lies_within(size: usize, start: usize, end: usize) -> bool
+    ensures { λ r. ⌜ r ≡ liesWithin size start end ⌝ }
+{
+    if end < start {
+        return false;
+    }
+    end <= size
+}
+
+// Outlines come in fours, names and values lie within `size` bytes.
+pub fn well_formed(size: usize, outlines: &[u32]) -> bool
+    ensures { λ r. ⌜ r ≡ wellFormed size (now (outlines .entry)) ⌝ }
+{
+    let mut i = 0;
+    while i < outlines.len() {
+        if outlines.len() - i < 4 {
+            return false;
+        }
+        if !lies_within(size, at32(outlines, i), at32(outlines, i + 1)) {
+            return false;
+        }
+        if !lies_within(size, at32(outlines, i + 2), at32(outlines, i + 3)) {
+            return false;
+        }
+        i += 4;
+    }
+    true
+}
+
+// What refusal 24 does not refuse.
+pub fn good_outlines(input: &[u8], outlines: &[u32]) -> bool
+    ensures { λ r. ⌜ r ≡ goodOutlines (now (input .entry)) (now (outlines .entry)) ⌝ }
+{
+    if 65536 < input.len() {
+        return false;
+    }
+    if 1024 < outlines.len() {
+        return false;
+    }
+    well_formed(input.len(), outlines)
+}
+
+// The first outline whose lower-cased name is `name`, which is lower-cased too where its case is ignored.
+pub fn find(input: &[u8], outlines: &[u32], name: &[u8], ignore: bool) -> Found
+    ensures { λ r. ⌜ r ≡ findIn (now (input .entry)) (fold ignore (now (name .entry))) (now (outlines .entry)) ⌝ }
+{
+    let mut i = 0;
+    while i < outlines.len() {
+        if outlines.len() - i < 4 {
+            return Found::Nothing;
+        }
+        let candidate = part_of(input, at32(outlines, i), at32(outlines, i + 1));
+        if same(candidate, true, name, ignore) {
+            return Found::At(at32(outlines, i + 2), at32(outlines, i + 3));
+        }
+        i += 4;
+    }
+    Found::Nothing
+}
+
+pub fn has_attribute(input: &[u8], outlines: &[u32], name: &[u8]) -> bool
+    ensures { λ r. ⌜ r ≡ isThere (lookup (now (name .entry)) (attributesOf (now (input .entry)) (now (outlines .entry)))) ⌝ }
+{
+    match find(input, outlines, name, false) {
+        Found::At(_, _) => true,
+        Found::Nothing => false,
+    }
+}
+
+// Whether `value` begins with `operand`.
+pub fn begins(value: &[u8], operand: &[u8], f: bool) -> bool
+    ensures { λ r. ⌜ r ≡ beginsWith f (now (value .entry)) (now (operand .entry)) ⌝ }
+{
+    same(part_of(value, 0, operand.len()), f, operand, f)
+}
+
+// [att^=val]
+pub fn has_attr_with_prefix(value: &[u8], operand: &[u8], f: bool) -> bool
+    ensures { λ r. ⌜ r ≡ prefixHolds f (now (value .entry)) (now (operand .entry)) ⌝ }
+{
+    if value.len() == 0 {
+        return false;
+    }
+    begins(value, operand, f)
+}
+
+// [att$=val]
+pub fn has_attr_with_suffix(value: &[u8], operand: &[u8], f: bool) -> bool
+    ensures { λ r. ⌜ r ≡ suffixHolds f (now (value .entry)) (now (operand .entry)) ⌝ }
+{
+    if value.len() == 0 {
+        return false;
+    }
+    if value.len() < operand.len() {
+        return false;
+    }
+    let at = value.len() - operand.len();
+    same(&value[at..], f, operand, f)
+}
+
+// [att|=val]
+pub fn has_dash_matching_attr(value: &[u8], operand: &[u8], f: bool) -> bool
+    ensures { λ r. ⌜ r ≡ dashHolds f (now (value .entry)) (now (operand .entry)) ⌝ }
+{
+    let n = operand.len();
+    if same(value, f, operand, f) {
+        return true;
+    }
+    if value.len() <= n {
+        return false;
+    }
+    if value[n] != b'-' {
+        return false;
+    }
+    begins(value, operand, f)
+}
+
+// [att*=val]
+pub fn has_attr_with_substring(value: &[u8], operand: &[u8], f: bool) -> bool
+    ensures { λ r. ⌜ r ≡ substringHolds f (now (value .entry)) (now (operand .entry)) ⌝ }
+{
+    if operand.len() == 0 {
+        return false;
+    }
+    let mut i = 0;
+    while i < value.len() {
+        if begins(&value[i..], operand, f) {
+            return true;
+        }
+        i += 1;
+    }
+    false
+}
+
+// [att~=val]
+pub fn matches_splitted_by_whitespace(value: &[u8], operand: &[u8], f: bool) -> bool
+    ensures { λ r. ⌜ r ≡ includesHolds f (now (value .entry)) (now (operand .entry)) ⌝ }
+{
+    let mut start = 0;
+    let mut i = 0;
+    while i < value.len() {
+        if is_attr_whitespace(value[i]) {
+            if same(&value[start..i], f, operand, f) {
+                return true;
+            }
+            start = i + 1;
+        }
+        i += 1;
+    }
+    same(&value[start..], f, operand, f)
+}
+
+// A value against an operand.
+pub fn compare(operator: Operator, value: &[u8], operand: &[u8], f: bool) -> bool
+    ensures { λ r. ⌜ r ≡ operatorHolds operator f (now (value .entry)) (now (operand .entry)) ⌝ }
+{
+    match operator {
+        Operator::Equal => same(value, f, operand, f),
+        Operator::Includes => matches_splitted_by_whitespace(value, operand, f),
+        Operator::Dash => has_dash_matching_attr(value, operand, f),
+        Operator::Prefix => has_attr_with_prefix(value, operand, f),
+        Operator::Suffix => has_attr_with_suffix(value, operand, f),
+        Operator::Substring => has_attr_with_substring(value, operand, f),
+    }
+}
+
+// The value that a name finds, against an operand; no value passes where there is no such attribute.
+pub fn value_matches(
+    input: &[u8],
+    outlines: &[u32],
+    name: &[u8],
+    ignore: bool,
+    operator: Operator,
+    operand: &[u8],
+    f: bool,
+) -> bool
+    ensures { λ r. ⌜ r ≡ valueHolds operator f (now (operand .entry)) (lookup (fold ignore (now (name .entry))) (attributesOf (now (input .entry)) (now (outlines .entry)))) ⌝ }
+{
+    match find(input, outlines, name, ignore) {
+        Found::At(start, end) => compare(operator, part_of(input, start, end), operand, f),
+        Found::Nothing => false,
+    }
+}
