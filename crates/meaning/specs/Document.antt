@@ -1,0 +1,65 @@
+-- Links, places in a document, and what a link reaches from a place (01, section 4; Selectors 4, combinators).
+use mathlib.Core.Path.{refl}
+use mathlib.Core.List.{List, [], _∷_}
+use mathlib.Core.Bool.{Bool}
+use lib.ListN.{length}
+use Prim.Native.Nat.{ℕ, suc}
+use Rattle.meaning.specs.Lists.{_∈_, here, there, keep}
+
+-- The ways in which a selector node hangs from another: the combinators `>` and white space.
+pub data Link : Type 0 where
+  child descendant : Link
+
+-- All links, in the order in which a sheet lists what hangs from a node.
+abbrev pub links : List Link
+links = child ∷ descendant ∷ []
+
+pub every-link : (l : Link) → l ∈ links
+every-link child = here refl
+every-link descendant = there (here refl)
+
+-- One fact for each link is a fact of every link.
+abbrev pub by-link : (P : Link → Type 0) → P child → P descendant → (l : Link) → P l
+by-link P a b child = a
+by-link P a b descendant = b
+
+-- Where the next tag would stand: at the start of the document, right after a closed element, or first inside an open element.
+-- Such an element stood at the place that is named with it, so a place holds all open elements and all their earlier siblings.
+pub data Place (E : Type 0) : Type 0 where
+  start : Place E
+  after : Place E → E → Place E
+  inside : Place E → E → Place E
+
+-- An element of a document, with all that came before it.
+pub record Spot (E : Type 0) : Type 0 where
+  pub at : Place E
+  pub element : E
+
+abbrev pub spot : {E : Type 0} → Place E → E → Spot E
+spot c e = record { at = c; element = e }
+
+-- What a link reaches from a place: child, the open parent; descendant, every open ancestor, innermost first.
+abbrev pub reach : {E : Type 0} → Link → Place E → List (Spot E)
+reach l start = []
+reach child (after c e) = reach child c
+reach descendant (after c e) = reach descendant c
+reach child (inside c e) = spot c e ∷ []
+reach descendant (inside c e) = spot c e ∷ reach descendant c
+
+-- The open elements at a place, innermost first.
+abbrev pub opened : {E : Type 0} → Place E → List (Spot E)
+opened c = reach descendant c
+
+-- The earlier siblings at a place, the last first.
+abbrev pub before : {E : Type 0} → Place E → List (Spot E)
+before start = []
+before (after c e) = spot c e ∷ before c
+before (inside c e) = []
+
+-- The position among its siblings, from 1, of an element that stands at a place.
+abbrev pub position : {E : Type 0} → Place E → ℕ
+position c = suc (length (before c))
+
+-- Its position, from 1, among those siblings whose name is its own, as a test of elements tells.
+abbrev pub position-of-type : {E : Type 0} → (E → Bool) → Place E → ℕ
+position-of-type named c = suc (length (keep (λ s. named (s .element)) (before c)))

@@ -1,0 +1,4 @@
+pub mod Lists
+pub mod Document
+pub mod Trees
+pub mod Layout
