@@ -1,9 +1,9 @@
 -- Links, places in a document, and what a link reaches from a place (01, section 4; Selectors 4, combinators).
 use mathlib.Core.Path.{refl}
 use mathlib.Core.List.{List, [], _∷_}
-use mathlib.Core.Bool.{Bool}
+use mathlib.Core.Bool.{Bool, true, false}
 use lib.ListN.{length}
-use Prim.Native.Nat.{ℕ, suc}
+use Prim.Native.Nat.{ℕ, zero, suc}
 use Rattle.meaning.specs.Lists.{_∈_, here, there, keep}
 
 -- The ways in which a selector node hangs from another: the combinators `>` and white space.
@@ -63,3 +63,19 @@ position c = suc (length (before c))
 -- Its position, from 1, among those siblings whose name is its own, as a test of elements tells.
 abbrev pub position-of-type : {E : Type 0} → (E → Bool) → Place E → ℕ
 position-of-type named c = suc (length (keep (λ s. named (s .element)) (before c)))
+
+-- The place after an element: inside it if it has content, else right after it.
+abbrev pub enter : {E : Type 0} → Bool → Place E → E → Place E
+enter true c e = inside c e
+enter false c e = after c e
+
+-- The place after the innermost open element is closed.
+abbrev pub close : {E : Type 0} → Place E → Place E
+close start = start
+close (after c e) = close c
+close (inside c e) = after c e
+
+-- The place after the n innermost open elements are closed.
+abbrev pub closes : {E : Type 0} → ℕ → Place E → Place E
+closes zero c = c
+closes (suc n) c = closes n (close c)

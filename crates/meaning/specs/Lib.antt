@@ -2,3 +2,8 @@ pub mod Lists
 pub mod Document
 pub mod Trees
 pub mod Layout
+pub mod Selectors
+pub mod Match
+pub mod Elements
+pub mod Machine
+pub mod ListLaws

@@ -1,7 +1,9 @@
 -- Words about lists that the definitions use: member of, keep, some, every, gather, distinct.
 use mathlib.Core.Path.{_≡_}
 use mathlib.Core.List.{List, [], _∷_, _++_}
-use mathlib.Core.Bool.{Bool, true, false, _&&_, _||_}
+use mathlib.Core.Bool.{Bool, true, false, not, _&&_, _||_}
+use lib.Dec.{eqb}
+use Prim.Native.Nat.{ℕ, _<_}
 
 module _ {A : Type 0} where
   infix 50 _∈_
@@ -44,3 +46,16 @@ module _ {A B : Type 0} (f : A → List B) where
 pub data Pairs {A B : Type 0} (R : A → B → Type 0) : List A → List B → Type 0 where
   no-pair : Pairs R [] []
   pair : {a : A} {b : B} {xs : List A} {ys : List B} → R a b → Pairs R xs ys → Pairs R (a ∷ xs) (b ∷ ys)
+
+-- ---- Lists of numbers as sets.
+abbrev pub has : ℕ → List ℕ → Bool
+has x ys = some (eqb x) ys
+
+-- The numbers of a list that another lacks.
+abbrev pub minus : List ℕ → List ℕ → List ℕ
+minus xs ys = keep (λ x. not (has x ys)) xs
+
+-- The numbers rise, so that none stands twice.
+abbrev pub Rising : List ℕ → Type 0
+Rising [] = Unit
+Rising (x ∷ xs) = ((y : ℕ) → y ∈ xs → x < y) × Rising xs
