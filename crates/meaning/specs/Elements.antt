@@ -3,9 +3,9 @@ use mathlib.Core.Path.{_≡_}
 use mathlib.Core.List.{List, [], _∷_, _++_, map}
 use mathlib.Core.Bool.{Bool, true, false, not, _&&_, cond}
 use lib.Dec.{eqb}
-use Prim.Native.Nat.{ℕ}
-use Rattle.meaning.specs.Lists.{some, every}
-use Rattle.meaning.specs.Document.{Place, Spot, before, position, position-of-type}
+use Prim.Native.Nat.{ℕ, suc}
+use Rattle.meaning.specs.Lists.{_∈_, some, every}
+use Rattle.meaning.specs.Document.{Place, start, after, inside, Spot, before, position, position-of-type}
 use Rattle.meaning.specs.Selectors.{all-hold}
 
 -- The bytes of a name, capitals lowered.
@@ -56,6 +56,17 @@ module _ {A : Type 0} where
   -- The position of a tag at a place among the siblings of its name; namespace plays no part (E3).
   abbrev pub position-of-name : Name → Place (Element A) → ℕ
   position-of-name x c = position-of-type (λ e. same-name x (e .tag .name)) c
+
+-- The pop rule: an end tag of this name closes these of the open elements, innermost first: through the nearest of the name, or none.
+pub data Closes {A : Type 0} (x : Name) (all : List (Spot (Element A))) : List (Spot (Element A)) → Type 0 where
+  none : ((s : Spot (Element A)) → s ∈ all → ¬ (name-of s ≡ x)) → Closes x all []
+  through : (inner outer : List (Spot (Element A))) (s : Spot (Element A)) → all ≡ inner ++ (s ∷ outer) → ((r : Spot (Element A)) → r ∈ inner → ¬ (name-of r ≡ x)) → name-of s ≡ x → Closes x all (inner ++ (s ∷ []))
+
+-- Live pairs of name and level: one for each element, of an open level, that is the first of its name there.
+abbrev pub pairs : {A : Type 0} → Place (Element A) → ℕ
+pairs start = 0
+pairs (after c e) = cond (new-name (e .tag .name) c) (suc (pairs c)) (pairs c)
+pairs (inside c e) = cond (new-name (e .tag .name) c) (suc (pairs c)) (pairs c)
 
 abbrev pub full : {X : Type 0} → List X → Bool
 full [] = false

@@ -6,4 +6,9 @@ pub mod Selectors
 pub mod Match
 pub mod Elements
 pub mod Machine
+pub mod Carries
+pub mod Demand
 pub mod ListLaws
+pub mod Carrying
+pub mod Scanning
+pub mod Names

@@ -1,5 +1,6 @@
 -- Selector trees (01, section 1: a node, its child trees, its descendant trees, then the next).
 use mathlib.Core.List.{List, [], _∷_}
+use mathlib.Core.Bool.{Bool, false, _||_}
 use Prim.Native.Nat.{ℕ, zero, suc, _+_}
 use Rattle.meaning.specs.Document.{Link, child, descendant}
 
@@ -32,6 +33,11 @@ module _ {D : Type 0} where
   unfoldable pub size : Forest D → ℕ
   size end = 0
   size (tree d k f) = suc (size (k child) + size (k descendant) + size f)
+
+  -- Some node of the forest says what passes a test.
+  abbrev pub some-node : (D → Bool) → Forest D → Bool
+  some-node p end = false
+  some-node p (tree d k f) = p d || some-node p (k child) || some-node p (k descendant) || some-node p f
 
   -- No node is deeper than n, the roots being at depth 1.
   unfoldable pub Within : ℕ → Forest D → Type 0
