@@ -23,6 +23,21 @@ abbrev pub place : {A : Type 0} → Moment A → Place (Element A)
 place (idle c) = c
 place (waiting c t) = c
 
+module _ {A : Type 0} (P : Program A) where
+  -- All tests of the node at an address hold for an element.
+  abbrev pub address-holds : ℕ → Spot (Element A) → Bool
+  address-holds n s = P .tag-tests n (position (s .at)) (position-of-name (name-of s) (s .at)) (s .element .tag) && P .attribute-tests n (s .element .tag) (s .element .given .attributes)
+
+  -- So many nodes match an element and have child trees; they are counted by address, since two nodes may say the same.
+  abbrev pub Givers : ℕ → Spot (Element A) → Type 0
+  Givers g s = (ns : List ℕ) × (length ns ≡ g) × Distinct ns × ((n : ℕ) → (n ∈ ns) ↔ (Matches (P .roots) (P .hung) address-holds n s × T (full (P .hung child n))))
+
+  -- What the limits of section 2 look at, said of the document.
+  abbrev pub Loads : Place (Element A) → Tag → Load → Type 0
+  Loads c t w =
+      (gs : List ℕ) × Pairs Givers gs (opened c)
+      × (w ≡ record { children = length (before c); new-pair = P .types-counted && new-name (t .name) c; pairs = cond (P .types-counted) (pairs c) 0; opens = length (opened c); givers = sum gs })
+
 module _ {A : Type 0} (Q : Tests A) (f : Forest (Q .D)) where
   -- An id is due for an element when a node that carries it matches the element.
   abbrev pub Due : Spot (Element A) → ℕ → Type 0
@@ -38,26 +53,12 @@ module _ {A : Type 0} (Q : Tests A) (f : Forest (Q .D)) where
     abbrev pub Lists : P .Ids → Spot (Element A) → Type 0
     Lists ids s = Rising (P .list ids) × ((i : ℕ) → (i ∈ P .list ids) ↔ Due s i)
 
-    -- All tests of the node at an address hold for an element.
-    abbrev pub address-holds : ℕ → Spot (Element A) → Bool
-    address-holds n s = P .tag-tests n (position (s .at)) (position-of-name (name-of s) (s .at)) (s .element .tag) && P .attribute-tests n (s .element .tag) (s .element .given .attributes)
-
-    -- So many nodes match an element and have child trees; they are counted by address, since two nodes may say the same.
-    abbrev pub Givers : ℕ → Spot (Element A) → Type 0
-    Givers g s = (ns : List ℕ) × (length ns ≡ g) × Distinct ns × ((n : ℕ) → (n ∈ ns) ↔ (Matches (P .roots) (P .hung) address-holds n s × T (full (P .hung child n))))
-
-    -- What the limits of section 2 look at, said of the document.
-    abbrev pub Loads : Place (Element A) → Tag → Load → Type 0
-    Loads c t w =
-        (gs : List ℕ) × Pairs Givers gs (opened c)
-        × (w ≡ record { children = length (before c); new-pair = P .types-counted && new-name (t .name) c; pairs = cond (P .types-counted) (pairs c) 0; opens = length (opened c); givers = sum gs })
-
     -- The refusal of a start tag, and of an element that would now be accepted; 0 is none.
     abbrev pub StartRefusal : Place (Element A) → Tag → ℕ → Type 0
-    StartRefusal c t r = (w : Load) × Loads c t w × (R .at-start w t ≡ r)
+    StartRefusal c t r = (w : Load) × Loads P c t w × (R .at-start w t ≡ r)
 
     abbrev pub PushRefusal : Place (Element A) → Element A → ℕ → Type 0
-    PushRefusal c e r = (w : Load) × (g : ℕ) × Loads c (e .tag) w × Givers g (spot c e) × (R .at-push w (has-content e) g ≡ r)
+    PushRefusal c e r = (w : Load) × (g : ℕ) × Loads P c (e .tag) w × Givers P g (spot c e) × (R .at-push w (has-content e) g ≡ r)
 
     -- An element comes whole to a place, where nothing refused it so far: it is refused, or its ids are listed and the document goes on.
     pub data Comes (old : Moment A) (c : Place (Element A)) (e : Element A) : Answer (P .Ids) → Moment A → Type 0 where

@@ -12,3 +12,4 @@ pub mod ListLaws
 pub mod Carrying
 pub mod Scanning
 pub mod Names
+pub mod Answering
