@@ -13,3 +13,5 @@ pub mod Carrying
 pub mod Scanning
 pub mod Names
 pub mod Answering
+pub mod Once
+pub mod Loading
