@@ -15,3 +15,5 @@ pub mod Names
 pub mod Answering
 pub mod Once
 pub mod Loading
+pub mod Following
+pub mod Proof

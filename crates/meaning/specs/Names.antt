@@ -120,3 +120,13 @@ module _ {A : Type 0} (x : Name) where
       go : (n : ℕ) → Found all n → Closes x all (take n all)
       go n (inl (z, h)) = rw z (none h)
       go n (inr (inner, outer, s, p, h, q, z)) = rw (z, p, take-inner inner outer s) (through inner outer s refl h q)
+
+  -- As many as are said are popped.
+  pub nearest-length : (all : List (Spot (Element A))) → length (take (nearest x (map name-of all)) all) ≡ nearest x (map name-of all)
+  nearest-length [] = refl
+  nearest-length (s ∷ ss) = go (same-name x (name-of s)) (nearest x (map name-of ss)) (nearest-length ss)
+    where
+      go : (b : Bool) (n : ℕ) → length (take n ss) ≡ n → length (take (up-to b n) (s ∷ ss)) ≡ up-to b n
+      go true n h = refl
+      go false zero h = refl
+      go false (suc n) h = ap suc h
