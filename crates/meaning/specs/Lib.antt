@@ -17,3 +17,6 @@ pub mod Once
 pub mod Loading
 pub mod Following
 pub mod Proof
+pub mod Sorted
+pub mod Owners
+pub mod Compiled

@@ -37,7 +37,7 @@ module _ {D : Type 0} where
   -- Some node of the forest says what passes a test.
   abbrev pub some-node : (D → Bool) → Forest D → Bool
   some-node p end = false
-  some-node p (tree d k f) = p d || some-node p (k child) || some-node p (k descendant) || some-node p f
+  some-node p (tree d k f) = p d || (some-node p (k child) || (some-node p (k descendant) || some-node p f))
 
   -- No node is deeper than n, the roots being at depth 1.
   unfoldable pub Within : ℕ → Forest D → Type 0
