@@ -32,11 +32,12 @@ module _ {A : Type 0} (P : Program A) where
   abbrev pub Givers : ℕ → Spot (Element A) → Type 0
   Givers g s = (ns : List ℕ) × (length ns ≡ g) × Distinct ns × ((n : ℕ) → (n ∈ ns) ↔ (Matches (P .roots) (P .hung) address-holds n s × T (full (P .hung child n))))
 
-  -- What the limits of section 2 look at, said of the document.
+  -- What the limits of section 2 look at, said of the document, the givers being so many.
+  abbrev pub load : Place (Element A) → Tag → ℕ → Load
+  load c t givers = record { children = length (before c); new-pair = P .types-counted && new-name (t .name) c; pairs = cond (P .types-counted) (pairs c) 0; opens = length (opened c); givers = givers }
+
   abbrev pub Loads : Place (Element A) → Tag → Load → Type 0
-  Loads c t w =
-      (gs : List ℕ) × Pairs Givers gs (opened c)
-      × (w ≡ record { children = length (before c); new-pair = P .types-counted && new-name (t .name) c; pairs = cond (P .types-counted) (pairs c) 0; opens = length (opened c); givers = sum gs })
+  Loads c t w = (gs : List ℕ) × Pairs Givers gs (opened c) × (w ≡ load c t (sum gs))
 
 module _ {A : Type 0} (Q : Tests A) (f : Forest (Q .D)) where
   -- An id is due for an element when a node that carries it matches the element.

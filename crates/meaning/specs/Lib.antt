@@ -20,3 +20,5 @@ pub mod Proof
 pub mod Sorted
 pub mod Owners
 pub mod Compiled
+pub mod Bounds
+pub mod Unique

@@ -1,14 +1,14 @@
 -- What holds of members, of `keep`, `gather` and pairs, and of lists of numbers as sets.
-use mathlib.Core.Path.{_≡_, refl, sym, ap, _∙_}
-use mathlib.Core.Logic.{_⊎_, inl, inr, ⊎-elim}
+use mathlib.Core.Path.{_≡_, refl, sym, ap, ap₂}
+use mathlib.Core.Logic.{_↔_, _⊎_, inl, inr, ⊎-elim}
 use mathlib.Core.List.{List, [], _∷_, _++_, map, reverse, reverseAux}
-use mathlib.Core.Bool.{Bool, true, false, false≢true, not, _&&_, _||_}
-use lib.Dec.{T, T-not, eqb, eqb→eq, eqb-refl}
+use mathlib.Core.Bool.{Bool, true, false, not, _&&_, _||_}
+use lib.Dec.{T, T-not, not-T, eqb, eqb→eq, eqb-refl}
 use lib.ListN.{length, take}
 use borrow.Author.Tests.{eq-eqb}
 use Prim.Native.Nat.{ℕ, zero, suc, _<_, _≤_}
 use native.Mathlib.Omega.{arith}
-use Rattle.meaning.specs.Lists.{_∈_, here, there, Distinct, put-if, keep, some, every, gather, Pairs, no-pair, pair, has, minus}
+use Rattle.meaning.specs.Lists.{_∈_, here, there, Distinct, put-if, keep, some, every, gather, Pairs, no-pair, pair, has, minus, Rising}
 
 module _ {A : Type 0} where
   pub some-mem : (p : A → Bool) (xs : List A) → T (some p xs) → (x : A) × (x ∈ xs) × T (p x)
@@ -168,34 +168,54 @@ pub distinct-join : (new old : List ℕ) → Distinct new → Distinct old → D
 distinct-join new old d e = distinct-cat old (minus new old) e (distinct-keep (λ x. not (has x old)) new d)
     (λ x b a. T-not (has x old) (keep-mem (λ z. not (has z old)) new a .1) (mem-has x old b))
 
--- Numbers below n, each once, are at most n.
-all-kept : (n : ℕ) (xs : List ℕ) → (n ∈ xs → ⊥) → length (keep (λ x. not (eqb x n)) xs) ≡ length xs
-all-kept n [] h = refl
-all-kept n (x ∷ xs) h = go (eqb x n) refl (all-kept n xs (λ m. h (there m)))
+-- ---- How many members there are.
+pub length-keep : {A : Type 0} (p : A → Bool) (xs : List A) → length (keep p xs) ≤ length xs
+length-keep p [] = omega arith
+length-keep p (x ∷ xs) = go (p x) (length-keep p xs)
   where
-    go : (b : Bool) → eqb x n ≡ b → length (keep (λ x. not (eqb x n)) xs) ≡ length xs → length (put-if (not b) x (keep (λ x. not (eqb x n)) xs)) ≡ suc (length xs)
-    go true e ih = absurd (h (here (sym (eqb→eq x n (rw e tt)))))
-    go false e ih = ap suc ih
+    go : (b : Bool) → length (keep p xs) ≤ length xs → length (put-if b x (keep p xs)) ≤ suc (length xs)
+    go true h = omega arith
+    go false h = omega arith
 
-one-less : (n : ℕ) (xs : List ℕ) → Distinct xs → length xs ≤ suc (length (keep (λ x. not (eqb x n)) xs))
-one-less n [] d = omega arith
-one-less n (x ∷ xs) (u, d) = go (eqb x n) refl (one-less n xs d)
+abbrev without : ℕ → List ℕ → List ℕ
+without x ys = keep (λ y. not (eqb x y)) ys
+
+length-without : (x : ℕ) (ys : List ℕ) → x ∈ ys → length (without x ys) < length ys
+length-without x (y ∷ ys) (here e) = let k = length-keep (λ y. not (eqb x y)) ys in rw (eq-eqb x y e) (omega arith)
+length-without x (y ∷ ys) (there m) = go (not (eqb x y)) (length-without x ys m)
   where
-    go : (b : Bool) → eqb x n ≡ b → length xs ≤ suc (length (keep (λ x. not (eqb x n)) xs)) → suc (length xs) ≤ suc (length (put-if (not b) x (keep (λ x. not (eqb x n)) xs)))
-    go true e ih = let q : x ≡ n = eqb→eq x n (rw e tt) in let l = all-kept n xs (λ m. u (rw q m)) in omega arith
-    go false e ih = omega arith
+    go : (b : Bool) → length (without x ys) < length ys → length (put-if b y (without x ys)) < suc (length ys)
+    go true h = omega arith
+    go false h = omega arith
 
-pub at-most : (n : ℕ) (xs : List ℕ) → Distinct xs → ((x : ℕ) → x ∈ xs → x < n) → length xs ≤ n
-at-most zero [] d h = omega arith
-at-most zero (x ∷ xs) d h = let q = h x (here refl) in absurd (let z : ⊥ = omega arith in z)
-at-most (suc n) xs d h =
-    let a = one-less n xs d in
-    let b = at-most n (keep (λ x. not (eqb x n)) xs) (distinct-keep (λ x. not (eqb x n)) xs d) (λ x m. below x (keep-mem (λ x. not (eqb x n)) xs m)) in
+-- A list without repetition whose members another has is no longer than that.
+pub length-within : (xs ys : List ℕ) → Distinct xs → ((x : ℕ) → x ∈ xs → x ∈ ys) → length xs ≤ length ys
+length-within [] ys d h = omega arith
+length-within (x ∷ xs) ys (n, d) h =
+    let a = length-within xs (without x ys) d (λ z m. mem-keep (λ y. not (eqb x y)) ys (h z (there m)) (not-T (eqb x z) (λ e. n (rw (eqb→eq x z e) m)))) in
+    let b = length-without x ys (h x (here refl)) in
     omega arith
-  where
-    below : (x : ℕ) → (x ∈ xs) × T (not (eqb x n)) → x < n
-    below x (m, t) = let q = h x m in go (eqb x n) refl t
-      where
-        go : (b : Bool) → eqb x n ≡ b → T (not b) → x < n
-        go true e t = absurd t
-        go false e t = let k : x ≡ n → ⊥ = λ z. false≢true (sym e ∙ rw z (eq-eqb n n refl)) in let q = h x m in omega arith
+
+pub length-same : (xs ys : List ℕ) → Distinct xs → Distinct ys → ((x : ℕ) → (x ∈ xs) ↔ (x ∈ ys)) → length xs ≡ length ys
+length-same xs ys d e h = let a = length-within xs ys d (λ x. h x .0) in let b = length-within ys xs e (λ x. h x .1) in omega arith
+
+-- Rising lists with the same members are equal.
+least : (x y : ℕ) (xs ys : List ℕ) → ((z : ℕ) → z ∈ xs → x < z) → ((z : ℕ) → z ∈ ys → y < z) → x ∈ (y ∷ ys) → y ∈ (x ∷ xs) → x ≡ y
+least x y xs ys u v (here e) k = e
+least x y xs ys u v (there m) (here e) = sym e
+least x y xs ys u v (there m) (there k) = let a = v x m in let b = u y k in omega arith
+
+later-mem : (x y z : ℕ) (ys : List ℕ) → x ≡ y → x < z → z ∈ (y ∷ ys) → z ∈ ys
+later-mem x y z ys e h (here q) = absurd (let k : ⊥ = omega arith in k)
+later-mem x y z ys e h (there m) = m
+
+pub rising-same : (xs ys : List ℕ) → Rising xs → Rising ys → ((x : ℕ) → (x ∈ xs) ↔ (x ∈ ys)) → xs ≡ ys
+rising-same [] [] r s h = refl
+rising-same [] (y ∷ ys) r s h = elim (h y .1 (here refl)) [ ]
+rising-same (x ∷ xs) [] r s h = elim (h x .0 (here refl)) [ ]
+rising-same (x ∷ xs) (y ∷ ys) (u, r) (v, s) h =
+    let e = least x y xs ys u v (h x .0 (here refl)) (h y .1 (here refl)) in
+    ap₂ {C = List ℕ} (λ a b. a ∷ b) e (rising-same xs ys r s (λ z. (
+      (λ m. later-mem x y z ys e (u z m) (h z .0 (there m))),
+      (λ m. later-mem y x z xs (sym e) (v z m) (h z .1 (there m))),
+    )))

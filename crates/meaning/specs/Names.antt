@@ -130,3 +130,26 @@ module _ {A : Type 0} (x : Name) where
       go true n h = refl
       go false zero h = refl
       go false (suc n) h = ap suc h
+
+  -- Only one list of elements can be closed by an end tag.
+  absent-other : (ss : List (Spot (Element A))) (s : Spot (Element A)) → Absent ss → s ∈ ss → same-name x (name-of s) ≡ false
+  absent-other ss s h m = go (same-name x (name-of s)) refl
+    where
+      go : (b : Bool) → same-name x (name-of s) ≡ b → b ≡ false
+      go true e = absurd (h s m (sym (same-name-eq x (name-of s) e)))
+      go false e = refl
+
+  nearest-absent : (ss : List (Spot (Element A))) → Absent ss → nearest x (map name-of ss) ≡ 0
+  nearest-absent [] h = refl
+  nearest-absent (s ∷ ss) h = (λ i. up-to (absent-other (s ∷ ss) s h (here refl) i) (nearest-absent ss (λ r m. h r (there m)) i))
+
+  nearest-through : (inner outer : List (Spot (Element A))) (s : Spot (Element A)) → Absent inner → name-of s ≡ x → nearest x (map name-of (inner ++ (s ∷ outer))) ≡ suc (length inner)
+  nearest-through [] outer s h e = ap (λ b. up-to b (nearest x (map name-of outer))) (ap (same-name x) e ∙ same-name-self x)
+  nearest-through (r ∷ inner) outer s h e = (λ i. up-to (absent-other (r ∷ inner) r h (here refl) i) (nearest-through inner outer s (λ q m. h q (there m)) e i))
+
+  closes-nearest : (all ss : List (Spot (Element A))) → Closes x all ss → ss ≡ take (nearest x (map name-of all)) all
+  closes-nearest all ss (none h) = ap (λ n. take n all) (sym (nearest-absent all h))
+  closes-nearest all ss (through inner outer s p h e) = sym (take-inner inner outer s) ∙ rw (p, nearest-through inner outer s h e)
+
+  pub closes-one : (all ss rs : List (Spot (Element A))) → Closes x all ss → Closes x all rs → ss ≡ rs
+  closes-one all ss rs c d = closes-nearest all ss c ∙ sym (closes-nearest all rs d)
