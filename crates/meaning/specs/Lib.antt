@@ -22,3 +22,5 @@ pub mod Owners
 pub mod Compiled
 pub mod Bounds
 pub mod Unique
+pub mod Limits
+pub mod Examples

@@ -1,6 +1,6 @@
 -- Names: when two are the same, how often one was counted, and which open element an end tag closes.
 use mathlib.Core.Path.{_≡_, refl, sym, ap, _∙_}
-use mathlib.Core.Logic.{_⊎_, inl, inr}
+use mathlib.Core.Logic.{_↔_, _⊎_, inl, inr}
 use mathlib.Core.List.{List, [], _∷_, _++_, map}
 use mathlib.Core.Bool.{Bool, true, false, not, _&&_, _||_, cond, false≢true}
 use lib.Dec.{eqb, eqb→eq}
@@ -153,3 +153,17 @@ module _ {A : Type 0} (x : Name) where
 
   pub closes-one : (all ss rs : List (Spot (Element A))) → Closes x all ss → Closes x all rs → ss ≡ rs
   closes-one all ss rs c d = closes-nearest all ss c ∙ sym (closes-nearest all rs d)
+
+-- The content rule as 01 says it: no content is for void HTML, and for SVG and MathML that are self-closing.
+pub content-none : (t : Tag) (self-closing : Bool) → (content t self-closing ≡ false) ↔ (((html t ≡ true) × (t .void ≡ true)) ⊎ ((html t ≡ false) × (self-closing ≡ true)))
+content-none t b = (to (html t) (t .void) b, from (html t) (t .void) b)
+  where
+    to : (h v b : Bool) → cond h (not v) (not b) ≡ false → ((h ≡ true) × (v ≡ true)) ⊎ ((h ≡ false) × (b ≡ true))
+    to true true b e = inl (refl, refl)
+    to true false b e = absurd (false≢true (sym e))
+    to false v true e = inr (refl, refl)
+    to false v false e = absurd (false≢true (sym e))
+
+    from : (h v b : Bool) → ((h ≡ true) × (v ≡ true)) ⊎ ((h ≡ false) × (b ≡ true)) → cond h (not v) (not b) ≡ false
+    from h v b (inl (e, q)) = rw (e, q)
+    from h v b (inr (e, q)) = rw (e, q)
