@@ -6,9 +6,9 @@ use lib.ListN.{take, length}
 use Prim.Native.Nat.{ℕ, zero, suc}
 use Rattle.meaning.specs.Lists.{keep, put-if, some}
 use Rattle.meaning.specs.ListLaws.{join}
-use Rattle.meaning.specs.Document.{Link, child, descendant, Place, start, after, inside, Spot, spot, before, opened, position, enter, close, closes}
-use Rattle.meaning.specs.Elements.{Name, same-name, Tag, Given, Element, element, html, content, has-content, name-of, position-of-name}
-use Rattle.meaning.specs.Machine.{Program, Refusals, Call, start-tag, attributes, end-tag, ids-asked, Answer, matched, attributes-wanted, popped, top-ids, nothing-open, refused, Item, Stack, Machine, ready, waits, empty, times-of, count-name, Scan, done, stuck, bearing, live, nearest, first, carried, live-at, accept, pop, pops, number, number-of-name, tag-passes, passes, scan-if, begin, weigh, top-of, push-refusal, answer-if, begun, begin-if, resume, close-if, end-if, step, run}
+use Rattle.meaning.specs.Document.{Link, child, descendant, start, after, inside, spot, before, opened, position, enter, close, closes}
+use Rattle.meaning.specs.Elements.{Where, Placed, Name, same-name, Tag, Given, Element, element, html, content, has-content, name-of, position-of-name}
+use Rattle.meaning.specs.Machine.{Program, Refusals, Call, start-tag, attributes, end-tag, ids-asked, Answer, matched, attributes-wanted, popped, top-ids, nothing-open, refused, Stack, Machine, ready, waits, empty, times-of, count-name, Scan, done, stuck, bearing, live, nearest, first, carried, live-at, accept, pop, pops, number-of-name, tag-passes, passes, scan-if, begin, weigh, top-of, push-refusal, answer-if, begun, begin-if, close-if, step, run}
 use Rattle.meaning.specs.Demand.{Moment, idle, waiting, address-holds}
 use Rattle.meaning.specs.Carrying.{bearers, hits}
 use Rattle.meaning.specs.Scanning.{asks, scan-asks, finish, finish-scan}
@@ -17,26 +17,26 @@ use Rattle.meaning.specs.Names.{times-count}
 module _ {A : Type 0} (P : Program A) where
   open Program P using (roots, hung, tag-tests, attribute-tested, attribute-tests, untested, types-counted, uncounted, Ids, unite)
 
-  abbrev pub tag-ok : Place (Element A) → Tag → ℕ → Bool
+  abbrev pub tag-ok : Where A → Tag → ℕ → Bool
   tag-ok c t n = tag-tests n (position c) (position-of-name (t .name) c) t
 
   -- The nodes that match an element, and those that are live at a place.
-  abbrev pub hits-of : Spot (Element A) → List ℕ
+  abbrev pub hits-of : Placed A → List ℕ
   hits-of s = hits roots hung (address-holds P) s
 
-  abbrev pub live-of : Place (Element A) → List ℕ
+  abbrev pub live-of : Where A → List ℕ
   live-of c = live roots hung (bearers roots hung (address-holds P) c)
 
-  abbrev pub must-wait : Place (Element A) → Tag → Bool
+  abbrev pub must-wait : Where A → Tag → Bool
   must-wait c t = not (html t) || some (λ n. tag-ok c t n && attribute-tested n) (live-of c)
 
   -- ---- The stack that stands for a place.
-  abbrev pub stack-of : Place (Element A) → Stack Ids
+  abbrev pub stack-of : Where A → Stack Ids
   stack-of start = empty
   stack-of (after c e) = accept P false (stack-of c) (e .tag) (hits-of (spot c e))
   stack-of (inside c e) = accept P true (stack-of c) (e .tag) (hits-of (spot c e))
 
-  pub carried-bearers : (c : Place (Element A)) (l : Link) → carried P (stack-of c) l ≡ bearers roots hung (address-holds P) c l
+  pub carried-bearers : (c : Where A) (l : Link) → carried P (stack-of c) l ≡ bearers roots hung (address-holds P) c l
   carried-bearers start child = refl
   carried-bearers start descendant = refl
   carried-bearers (after c e) child = carried-bearers c child
@@ -44,15 +44,15 @@ module _ {A : Type 0} (P : Program A) where
   carried-bearers (inside c e) child = refl
   carried-bearers (inside c e) descendant = ap (join (bearing roots hung descendant (hits-of (spot c e)))) (carried-bearers c descendant)
 
-  pub live-carried : (c : Place (Element A)) → live-at P (stack-of c) ≡ live-of c
+  pub live-carried : (c : Where A) → live-at P (stack-of c) ≡ live-of c
   live-carried c = ap {A = Link → List ℕ} (live roots hung) (fun-ext (carried-bearers c))
 
-  pub children-before : (c : Place (Element A)) → stack-of c .top .children ≡ length (before c)
+  pub children-before : (c : Where A) → stack-of c .top .children ≡ length (before c)
   children-before start = refl
   children-before (after c e) = ap suc (children-before c)
   children-before (inside c e) = refl
 
-  pub times-before : types-counted ≡ true → (c : Place (Element A)) (x : Name) → times-of x (stack-of c .top .types) ≡ length (keep (λ s. same-name x (name-of s)) (before c))
+  pub times-before : types-counted ≡ true → (c : Where A) (x : Name) → times-of x (stack-of c .top .types) ≡ length (keep (λ s. same-name x (name-of s)) (before c))
   times-before y start x = refl
   times-before y (after c e) x =
       ap (λ b. times-of x (cond b (count-name (e .tag .name) (stack-of c .top .types)) (stack-of c .top .types))) y
@@ -65,41 +65,41 @@ module _ {A : Type 0} (P : Program A) where
   times-before y (inside c e) x = refl
 
   -- The tests see the same positions.
-  passes-ok : (c : Place (Element A)) (t : Tag) (n : ℕ) → tag-passes P (stack-of c) t n ≡ tag-ok c t n
+  passes-ok : (c : Where A) (t : Tag) (n : ℕ) → tag-passes P (stack-of c) t n ≡ tag-ok c t n
   passes-ok c t n = ap (λ (i : ℕ). tag-tests n (suc i) (number-of-name P (stack-of c) (t .name)) t) (children-before c) ∙ go types-counted refl
     where
       go : (b : Bool) → types-counted ≡ b → tag-tests n (position c) (number-of-name P (stack-of c) (t .name)) t ≡ tag-tests n (position c) (position-of-name (t .name) c) t
       go true y = ap (λ (j : ℕ). tag-tests n (position c) (suc j) t) (times-before y c (t .name))
       go false y = uncounted y n _ _ _ t
 
-  pub names-open : (c : Place (Element A)) → map (λ f. f .name) (stack-of c .items) ≡ map name-of (opened c)
+  pub names-open : (c : Where A) → map (λ f. f .name) (stack-of c .items) ≡ map name-of (opened c)
   names-open start = refl
   names-open (after c e) = names-open c
   names-open (inside c e) = ap (λ x. e .tag .name ∷ x) (names-open c)
 
-  pub ids-open : (c : Place (Element A)) → map (λ f. f .ids) (stack-of c .items) ≡ map (λ s. unite (hits-of s)) (opened c)
+  pub ids-open : (c : Where A) → map (λ f. f .ids) (stack-of c .items) ≡ map (λ s. unite (hits-of s)) (opened c)
   ids-open start = refl
   ids-open (after c e) = ids-open c
   ids-open (inside c e) = ap (λ x. unite (hits-of (spot c e)) ∷ x) (ids-open c)
 
-  pop-close : (c : Place (Element A)) → pop P (stack-of c .items) ≡ stack-of (close c)
+  pop-close : (c : Where A) → pop P (stack-of c .items) ≡ stack-of (close c)
   pop-close start = refl
   pop-close (after c e) = pop-close c
   pop-close (inside c e) = refl
 
-  pub pops-closes : (n : ℕ) (c : Place (Element A)) → pops P n (stack-of c) ≡ stack-of (closes n c)
+  pub pops-closes : (n : ℕ) (c : Where A) → pops P n (stack-of c) ≡ stack-of (closes n c)
   pops-closes zero c = refl
   pops-closes (suc n) c = ap (pops P n) (pop-close c) ∙ pops-closes n (close c)
 
-  accept-enter : (b : Bool) (c : Place (Element A)) (e : Element A) → accept P b (stack-of c) (e .tag) (hits-of (spot c e)) ≡ stack-of (enter b c e)
+  accept-enter : (b : Bool) (c : Where A) (e : Element A) → accept P b (stack-of c) (e .tag) (hits-of (spot c e)) ≡ stack-of (enter b c e)
   accept-enter true c e = refl
   accept-enter false c e = refl
 
-  abbrev pub top-said : List (Spot (Element A)) → Answer Ids
+  abbrev pub top-said : List (Placed A) → Answer Ids
   top-said [] = nothing-open
   top-said (s ∷ ss) = top-ids (unite (hits-of s))
 
-  top-open : (c : Place (Element A)) → top-of P (stack-of c .items) ≡ top-said (opened c)
+  top-open : (c : Where A) → top-of P (stack-of c .items) ≡ top-said (opened c)
   top-open start = refl
   top-open (after c e) = top-open c
   top-open (inside c e) = refl
@@ -151,19 +151,19 @@ module _ {A : Type 0} (P : Program A) where
         λ i. answer-if P R (first (z i) (push-refusal P R k t (content t (g .self-closing)) (h i))) (waits k t found rest) k t (content t (g .self-closing)) (h i)
 
     -- ---- What the document says to each call. `ghost` gives the attributes of a tag that is not made to wait.
-    module _ (ghost : Place (Element A) → Tag → Given A) where
-      abbrev pub push-said : Place (Element A) → Element A → ℕ
+    module _ (ghost : Where A → Tag → Given A) where
+      abbrev pub push-said : Where A → Element A → ℕ
       push-said c e = push-refusal P R (stack-of c) (e .tag) (has-content e) (hits-of (spot c e))
 
-      abbrev pub comes-if : ℕ → Moment A → Place (Element A) → Element A → Answer Ids × Moment A
+      abbrev pub comes-if : ℕ → Moment A → Where A → Element A → Answer Ids × Moment A
       comes-if zero old c e = (matched (unite (hits-of (spot c e))) (has-content e), idle (enter (has-content e) c e))
       comes-if (suc r) old c e = (refused (suc r), old)
 
-      abbrev pub starts-if : ℕ → Place (Element A) → Tag → Answer Ids × Moment A
+      abbrev pub starts-if : ℕ → Where A → Tag → Answer Ids × Moment A
       starts-if zero c t = cond (must-wait c t) (attributes-wanted, waiting c t) (comes-if (push-said c (element t (ghost c t))) (idle c) c (element t (ghost c t)))
       starts-if (suc r) c t = (refused (suc r), idle c)
 
-      abbrev pub ends-if : ℕ → Place (Element A) → ℕ → Answer Ids × Moment A
+      abbrev pub ends-if : ℕ → Where A → ℕ → Answer Ids × Moment A
       ends-if zero c n = (popped (reverse (take n (map (λ s. unite (hits-of s)) (opened c)))), idle (closes n c))
       ends-if (suc r) c n = (refused (suc r), idle c)
 
@@ -183,32 +183,32 @@ module _ {A : Type 0} (P : Program A) where
 
       -- The machine stands where the run stands: what was found and what passes of the rest is what matches, whatever the attributes will be.
       pub data Stood : Machine Ids → Moment A → Type 0 where
-        at-rest : (c : Place (Element A)) → Stood (ready (stack-of c)) (idle c)
-        held : (c : Place (Element A)) (t : Tag) (found rest : List ℕ)
+        at-rest : (c : Where A) → Stood (ready (stack-of c)) (idle c)
+        held : (c : Where A) (t : Tag) (found rest : List ℕ)
             → ((g : Given A) → found ++ keep (passes P (stack-of c) t (g .attributes)) rest ≡ hits-of (spot c (element t g)))
             → Stood (waits (stack-of c) t found rest) (waiting c t)
 
-      all-hits : (c : Place (Element A)) (t : Tag) (g : Given A) → keep (passes P (stack-of c) t (g .attributes)) (live-at P (stack-of c)) ≡ hits-of (spot c (element t g))
+      all-hits : (c : Where A) (t : Tag) (g : Given A) → keep (passes P (stack-of c) t (g .attributes)) (live-at P (stack-of c)) ≡ hits-of (spot c (element t g))
       all-hits c t g = (λ i. keep (passes P (stack-of c) t (g .attributes)) (live-carried c i)) ∙ (λ i. keep (λ n. passes-ok c t n i && attribute-tests n t (g .attributes)) (live-of c))
 
-      pub begin-hits : (c : Place (Element A)) (t : Tag) (g : Given A) → finished (stack-of c) t (g .attributes) (begin P (stack-of c) t) ≡ hits-of (spot c (element t g))
+      pub begin-hits : (c : Where A) (t : Tag) (g : Given A) → finished (stack-of c) t (g .attributes) (begin P (stack-of c) t) ≡ hits-of (spot c (element t g))
       begin-hits c t g = begin-finished (stack-of c) t (g .attributes) ∙ all-hits c t g
 
-      begin-waits : (c : Place (Element A)) (t : Tag) → asks (begin P (stack-of c) t) ≡ must-wait c t
+      begin-waits : (c : Where A) (t : Tag) → asks (begin P (stack-of c) t) ≡ must-wait c t
       begin-waits c t = begin-asks (stack-of c) t ∙ (λ i. not (html t) || some (λ n. tag-passes P (stack-of c) t n && attribute-tested n) (live-carried c i)) ∙ (λ i. not (html t) || some (λ n. passes-ok c t n i && attribute-tested n) (live-of c))
 
       -- What a machine answers and is, against what is said.
       abbrev Same : Answer Ids × Machine Ids → Answer Ids × Moment A → Type 0
       Same r q = (r .0 ≡ q .0) × Stood (r .1) (q .1)
 
-      came : (r : ℕ) (old : Machine Ids) (was : Moment A) → Stood old was → (c : Place (Element A)) (e : Element A) → Same (answer-if P R r old (stack-of c) (e .tag) (has-content e) (hits-of (spot c e))) (comes-if r was c e)
+      came : (r : ℕ) (old : Machine Ids) (was : Moment A) → Stood old was → (c : Where A) (e : Element A) → Same (answer-if P R r old (stack-of c) (e .tag) (has-content e) (hits-of (spot c e))) (comes-if r was c e)
       came zero old was s c e = (refl, rw accept-enter (at-rest (enter (has-content e) c e)))
       came (suc r) old was s c e = (refl, s)
 
-      whole-came : (c : Place (Element A)) (t : Tag) → Same (whole (ready (stack-of c)) (stack-of c) t (ghost c t)) (comes-if (push-said c (element t (ghost c t))) (idle c) c (element t (ghost c t)))
+      whole-came : (c : Where A) (t : Tag) → Same (whole (ready (stack-of c)) (stack-of c) t (ghost c t)) (comes-if (push-said c (element t (ghost c t))) (idle c) c (element t (ghost c t)))
       whole-came c t = rw (all-hits c t (ghost c t)) (came (push-said c (element t (ghost c t))) (ready (stack-of c)) (idle c) (at-rest c) c (element t (ghost c t)))
 
-      started : (c : Place (Element A)) (t : Tag) (r : ℕ) → Same (begin-if P R r (stack-of c) t) (starts-if r c t)
+      started : (c : Where A) (t : Tag) (r : ℕ) → Same (begin-if P R r (stack-of c) t) (starts-if r c t)
       started c t zero = go (must-wait c t) refl
         where
           stopped : (sc : Scan) → asks sc ≡ true → ((g : Given A) → finished (stack-of c) t (g .attributes) sc ≡ hits-of (spot c (element t g))) → Same (begun P R (stack-of c) t sc) (attributes-wanted, waiting c t)
@@ -220,7 +220,7 @@ module _ {A : Type 0} (P : Program A) where
           go false e = rw (unasked (stack-of c) t (ghost c t) (begin-waits c t ∙ e)) (whole-came c t)
       started c t (suc r) = (refl, at-rest c)
 
-      ended : (r : ℕ) (c : Place (Element A)) (n : ℕ) → Same (close-if P R r (stack-of c) n) (ends-if r c n)
+      ended : (r : ℕ) (c : Where A) (n : ℕ) → Same (close-if P R r (stack-of c) n) (ends-if r c n)
       ended zero c n = rw (ids-open c, pops-closes) (refl, at-rest (closes n c))
       ended (suc r) c n = (refl, at-rest c)
 

@@ -1,13 +1,12 @@
 -- What joins a machine's addresses to the nodes of a forest.
 use mathlib.Core.Path.{_≡_}
-use mathlib.Core.List.{List}
-use mathlib.Core.Bool.{Bool}
 use Prim.Native.Nat.{ℕ}
-use Rattle.meaning.specs.Lists.{some, every, Pairs}
+use Rattle.meaning.specs.Lists.{some, every, Pairs, full}
 use Rattle.meaning.specs.Document.{Link}
 use Rattle.meaning.specs.Trees.{Forest, Node, nodes, hung, some-node}
 use Rattle.meaning.specs.Match.{TreeShaped}
-use Rattle.meaning.specs.Elements.{Tag, full, Tests}
+use Rattle.meaning.specs.Elements.{Tag}
+use Rattle.meaning.specs.Tests.{Tests}
 use Rattle.meaning.specs.Machine.{Program}
 
 -- A program holds a forest: the addresses are its nodes, with their links, their tests and their ids. The layout of a forest is such a program (Compiled); so are rows in a store.

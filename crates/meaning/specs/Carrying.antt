@@ -1,15 +1,14 @@
 -- The nodes that match, as a list that is carried from place to place: it is the relation `Matches`.
-use mathlib.Core.Path.{_≡_, refl}
+use mathlib.Core.Path.{refl}
 use mathlib.Core.Logic.{_↔_, _⊎_, inl, inr, ⊎-elim}
-use mathlib.Core.List.{List, [], _∷_, _++_}
+use mathlib.Core.List.{List, [], _∷_}
 use mathlib.Core.Bool.{Bool}
 use lib.Dec.{T}
 use Prim.Native.Nat.{ℕ}
-use Rattle.meaning.specs.Lists.{_∈_, here, there, keep, gather}
+use Rattle.meaning.specs.Lists.{_∈_, here, there, keep, gather, full}
 use Rattle.meaning.specs.ListLaws.{keep-mem, mem-keep, gather-mem, mem-gather, ∈-left, ∈-right, ∈-split, join, join-mem, mem-join-old, mem-join-new}
 use Rattle.meaning.specs.Document.{Link, child, descendant, links, every-link, Place, start, after, inside, Spot, spot, reach}
 use Rattle.meaning.specs.Match.{Matches, root, hangs, Live}
-use Rattle.meaning.specs.Elements.{full}
 use Rattle.meaning.specs.Machine.{bearing, live}
 
 module _ (roots : List ℕ) (hung : Link → ℕ → List ℕ) where

@@ -4,21 +4,19 @@ use mathlib.Core.Logic.{⊎-elim}
 use mathlib.Core.Option.{Option, none, some}
 use mathlib.Core.List.{List, [], _∷_, _++_}
 use mathlib.Core.Bool.{Bool, true, false, _&&_, _||_, false≢true}
-use lib.ListN.{length}
-use Prim.Native.Nat.{ℕ, zero, suc, _<_, _≤_}
-use native.Mathlib.Omega.{arith}
-use native.Mathlib.Nat.{le-of-eq}
+use Prim.Native.Nat.{ℕ, zero, suc, _<_}
 use Rattle.meaning.specs.Lists as lists
-use Rattle.meaning.specs.Lists.{_∈_, here, there, every, gather, Distinct, Pairs, no-pair, pair}
+use Rattle.meaning.specs.Lists.{_∈_, here, there, every, gather, Distinct, Pairs, no-pair, pair, full}
 use Rattle.meaning.specs.ListLaws.{∈-split}
 use Rattle.meaning.specs.Document.{Link, child, descendant}
 use Rattle.meaning.specs.Trees.{Forest, end, tree, Node, nodes, hung, width, size, some-node}
-use Rattle.meaning.specs.Layout.{Range, Instruction, layout, block, below, begins, ends, fetch, Laid, length-layout, layout-laid}
+use Rattle.meaning.specs.Layout.{Instruction, layout, block, below, begins, ends, fetch, Laid, length-layout, layout-laid}
 use Rattle.meaning.specs.Match.{Way, at-root, by, TreeShaped}
-use Rattle.meaning.specs.Elements.{Tag, full, Tests}
+use Rattle.meaning.specs.Elements.{Tag}
+use Rattle.meaning.specs.Tests.{Tests}
 use Rattle.meaning.specs.Machine.{Program}
 use Rattle.meaning.specs.Carries.{Carries}
-use Rattle.meaning.specs.Owners.{Owner, own, Owned, Good, owners, layout-owned, owned-mem, span, distinct-span, fetch-below}
+use Rattle.meaning.specs.Owners.{own, Good, owners, layout-owned, owned-mem, span, distinct-span, fetch-below}
 use Rattle.meaning.specs.Sorted.{sorted, sorted-rising, sorted-mem}
 
 -- Some test of the node is nth-of-type.

@@ -1,14 +1,15 @@
 -- P10, P11 and P12 of 01, section 6, on the machine over a layout, by computation.
 use mathlib.Core.Path.{_≡_, refl}
 use mathlib.Core.List.{List, [], _∷_, map}
-use mathlib.Core.Bool.{Bool, true, false}
-use Prim.Native.Nat.{ℕ, zero, suc}
+use mathlib.Core.Bool.{true, false}
+use Prim.Native.Nat.{ℕ}
 use Rattle.meaning.specs.Document.{Link, child, descendant}
 use Rattle.meaning.specs.Trees.{Forest, end, tree, size}
-use Rattle.meaning.specs.Layout.{Instruction, layout, below}
-use Rattle.meaning.specs.Elements.{Name, same-name, Tag, Tests}
+use Rattle.meaning.specs.Layout.{layout, below}
+use Rattle.meaning.specs.Elements.{Name, same-name}
+use Rattle.meaning.specs.Tests.{Tests}
 use Rattle.meaning.specs.Machine.{Call, start-tag, end-tag, ids-asked, Answer, matched, popped, top-ids, nothing-open, refused, ready, empty, run}
-use Rattle.meaning.specs.Limits.{Limits, section-2, refusals}
+use Rattle.meaning.specs.Limits.{section-2, refusals}
 use Rattle.meaning.specs.Compiled.{compiled}
 
 abbrev hanging : {D : Type 0} → Forest D → Forest D → Link → Forest D

@@ -1,5 +1,5 @@
 -- Where one graph of nodes follows another, what matches in the one matches in the other.
-use mathlib.Core.Logic.{_⊎_, inl, inr}
+use mathlib.Core.Logic.{inl, inr}
 use mathlib.Core.List.{List}
 use mathlib.Core.Bool.{Bool}
 use lib.Dec.{T}

@@ -5,6 +5,7 @@ pub mod Layout
 pub mod Selectors
 pub mod Match
 pub mod Elements
+pub mod Tests
 pub mod Machine
 pub mod Carries
 pub mod Demand

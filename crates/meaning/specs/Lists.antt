@@ -36,6 +36,11 @@ module _ {A : Type 0} where
   every p [] = true
   every p (x ∷ xs) = p x && every p xs
 
+  -- Whether a list has members.
+  abbrev pub full : List A → Bool
+  full [] = false
+  full (x ∷ xs) = true
+
 module _ {A B : Type 0} (f : A → List B) where
   -- The lists that a function gives for each member, one after the other.
   abbrev pub gather : List A → List B

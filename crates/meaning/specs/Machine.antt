@@ -2,12 +2,12 @@
 use mathlib.Core.Path.{_≡_}
 use mathlib.Core.Logic.{_↔_}
 use mathlib.Core.List.{List, [], _∷_, _++_, map, reverse}
-use mathlib.Core.Bool.{Bool, true, false, not, _&&_, _||_, cond}
+use mathlib.Core.Bool.{Bool, true, false, not, _&&_, cond}
 use lib.ListN.{take, length}
 use Prim.Native.Nat.{ℕ, zero, suc, _+_}
-use Rattle.meaning.specs.Lists.{_∈_, keep, some, gather, minus, Rising}
+use Rattle.meaning.specs.Lists.{_∈_, keep, some, gather, minus, Rising, full}
 use Rattle.meaning.specs.Document.{Link, child, descendant, links}
-use Rattle.meaning.specs.Elements.{Name, same-name, Tag, Given, html, content, full}
+use Rattle.meaning.specs.Elements.{Name, same-name, Tag, Given, html, content}
 
 -- ---- What the machine is given.
 

@@ -7,9 +7,8 @@ use lib.Dec.{eqb, eqb→eq}
 use lib.ListN.{take, length}
 use borrow.Author.Tests.{eq-eqb}
 use Prim.Native.Nat.{ℕ, zero, suc}
-use Rattle.meaning.specs.Lists.{_∈_, here, there, keep, put-if, some}
-use Rattle.meaning.specs.Document.{Spot}
-use Rattle.meaning.specs.Elements.{Name, same-name, Tag, Element, content, html, name-of, Closes, none, through}
+use Rattle.meaning.specs.Lists.{_∈_, here, there}
+use Rattle.meaning.specs.Elements.{Placed, Name, same-name, Tag, content, html, name-of, Closes, none, through}
 use Rattle.meaning.specs.Machine.{Counter, times-of, count-name, known, up-to, nearest}
 
 pub same-name-eq : (x y : Name) → same-name x y ≡ true → x ≡ y
@@ -89,19 +88,19 @@ length-count y (z ∷ zs) = go (same-name y (z .name)) (length-count y zs)
 
 -- The pop rule, as the machine computes it, is the pop rule as it is said.
 module _ {A : Type 0} (x : Name) where
-  abbrev Absent : List (Spot (Element A)) → Type 0
-  Absent ss = (s : Spot (Element A)) → s ∈ ss → ¬ (name-of s ≡ x)
+  abbrev Absent : List (Placed A) → Type 0
+  Absent ss = (s : Placed A) → s ∈ ss → ¬ (name-of s ≡ x)
 
-  abbrev Found : List (Spot (Element A)) → ℕ → Type 0
+  abbrev Found : List (Placed A) → ℕ → Type 0
   Found all n =
       ((n ≡ 0) × Absent all)
-      ⊎ ((inner : List (Spot (Element A))) × (outer : List (Spot (Element A))) × (s : Spot (Element A)) × (all ≡ inner ++ (s ∷ outer)) × Absent inner × (name-of s ≡ x) × (n ≡ suc (length inner)))
+      ⊎ ((inner : List (Placed A)) × (outer : List (Placed A)) × (s : Placed A) × (all ≡ inner ++ (s ∷ outer)) × Absent inner × (name-of s ≡ x) × (n ≡ suc (length inner)))
 
-  absent-more : (s : Spot (Element A)) (ss : List (Spot (Element A))) → same-name x (name-of s) ≡ false → Absent ss → Absent (s ∷ ss)
+  absent-more : (s : Placed A) (ss : List (Placed A)) → same-name x (name-of s) ≡ false → Absent ss → Absent (s ∷ ss)
   absent-more s ss e h r (here q) p = false≢true (sym e ∙ ap (same-name x) (sym (ap name-of q) ∙ p) ∙ same-name-self x)
   absent-more s ss e h r (there m) p = h r m p
 
-  found : (all : List (Spot (Element A))) → Found all (nearest x (map name-of all))
+  found : (all : List (Placed A)) → Found all (nearest x (map name-of all))
   found [] = inl (refl, λ s m. elim m [ ])
   found (s ∷ ss) = go (same-name x (name-of s)) refl (nearest x (map name-of ss)) (found ss)
     where
@@ -110,11 +109,11 @@ module _ {A : Type 0} (x : Name) where
       go false e n (inl (z, h)) = rw z (inl (refl, absent-more s ss e h))
       go false e n (inr (inner, outer, r, p, h, q, z)) = rw z (inr (s ∷ inner, outer, r, ap (λ l. s ∷ l) p, absent-more s inner e h, q, refl))
 
-  take-inner : (inner outer : List (Spot (Element A))) (s : Spot (Element A)) → take (suc (length inner)) (inner ++ (s ∷ outer)) ≡ inner ++ (s ∷ [])
+  take-inner : (inner outer : List (Placed A)) (s : Placed A) → take (suc (length inner)) (inner ++ (s ∷ outer)) ≡ inner ++ (s ∷ [])
   take-inner [] outer s = refl
   take-inner (r ∷ inner) outer s = ap (λ l. r ∷ l) (take-inner inner outer s)
 
-  pub nearest-closes : (all : List (Spot (Element A))) → Closes x all (take (nearest x (map name-of all)) all)
+  pub nearest-closes : (all : List (Placed A)) → Closes x all (take (nearest x (map name-of all)) all)
   nearest-closes all = go (nearest x (map name-of all)) (found all)
     where
       go : (n : ℕ) → Found all n → Closes x all (take n all)
@@ -122,7 +121,7 @@ module _ {A : Type 0} (x : Name) where
       go n (inr (inner, outer, s, p, h, q, z)) = rw (z, p, take-inner inner outer s) (through inner outer s refl h q)
 
   -- As many as are said are popped.
-  pub nearest-length : (all : List (Spot (Element A))) → length (take (nearest x (map name-of all)) all) ≡ nearest x (map name-of all)
+  pub nearest-length : (all : List (Placed A)) → length (take (nearest x (map name-of all)) all) ≡ nearest x (map name-of all)
   nearest-length [] = refl
   nearest-length (s ∷ ss) = go (same-name x (name-of s)) (nearest x (map name-of ss)) (nearest-length ss)
     where
@@ -132,26 +131,26 @@ module _ {A : Type 0} (x : Name) where
       go false (suc n) h = ap suc h
 
   -- Only one list of elements can be closed by an end tag.
-  absent-other : (ss : List (Spot (Element A))) (s : Spot (Element A)) → Absent ss → s ∈ ss → same-name x (name-of s) ≡ false
+  absent-other : (ss : List (Placed A)) (s : Placed A) → Absent ss → s ∈ ss → same-name x (name-of s) ≡ false
   absent-other ss s h m = go (same-name x (name-of s)) refl
     where
       go : (b : Bool) → same-name x (name-of s) ≡ b → b ≡ false
       go true e = absurd (h s m (sym (same-name-eq x (name-of s) e)))
       go false e = refl
 
-  nearest-absent : (ss : List (Spot (Element A))) → Absent ss → nearest x (map name-of ss) ≡ 0
+  nearest-absent : (ss : List (Placed A)) → Absent ss → nearest x (map name-of ss) ≡ 0
   nearest-absent [] h = refl
   nearest-absent (s ∷ ss) h = (λ i. up-to (absent-other (s ∷ ss) s h (here refl) i) (nearest-absent ss (λ r m. h r (there m)) i))
 
-  nearest-through : (inner outer : List (Spot (Element A))) (s : Spot (Element A)) → Absent inner → name-of s ≡ x → nearest x (map name-of (inner ++ (s ∷ outer))) ≡ suc (length inner)
+  nearest-through : (inner outer : List (Placed A)) (s : Placed A) → Absent inner → name-of s ≡ x → nearest x (map name-of (inner ++ (s ∷ outer))) ≡ suc (length inner)
   nearest-through [] outer s h e = ap (λ b. up-to b (nearest x (map name-of outer))) (ap (same-name x) e ∙ same-name-self x)
   nearest-through (r ∷ inner) outer s h e = (λ i. up-to (absent-other (r ∷ inner) r h (here refl) i) (nearest-through inner outer s (λ q m. h q (there m)) e i))
 
-  closes-nearest : (all ss : List (Spot (Element A))) → Closes x all ss → ss ≡ take (nearest x (map name-of all)) all
+  closes-nearest : (all ss : List (Placed A)) → Closes x all ss → ss ≡ take (nearest x (map name-of all)) all
   closes-nearest all ss (none h) = ap (λ n. take n all) (sym (nearest-absent all h))
   closes-nearest all ss (through inner outer s p h e) = sym (take-inner inner outer s) ∙ rw (p, nearest-through inner outer s h e)
 
-  pub closes-one : (all ss rs : List (Spot (Element A))) → Closes x all ss → Closes x all rs → ss ≡ rs
+  pub closes-one : (all ss rs : List (Placed A)) → Closes x all ss → Closes x all rs → ss ≡ rs
   closes-one all ss rs c d = closes-nearest all ss c ∙ sym (closes-nearest all rs d)
 
 -- The content rule as 01 says it: no content is for void HTML, and for SVG and MathML that are self-closing.

@@ -1,16 +1,14 @@
 -- Where nodes form trees, no node is live, matched or carried twice.
-use mathlib.Core.Path.{_≡_}
 use mathlib.Core.Logic.{⊎-elim}
 use mathlib.Core.List.{List, [], _∷_}
 use mathlib.Core.Bool.{Bool}
 use lib.Dec.{eqb}
 use Prim.Native.Nat.{ℕ}
-use Rattle.meaning.specs.Lists.{_∈_, Distinct, keep, gather}
+use Rattle.meaning.specs.Lists.{_∈_, Distinct, keep, gather, full}
 use Rattle.meaning.specs.ListLaws.{mem-some, keep-mem, gather-mem, distinct-keep, distinct-cat, distinct-gather, join-mem, distinct-join}
 use Rattle.meaning.specs.Document.{Link, child, descendant, links, Place, start, after, inside, Spot, spot}
 use Rattle.meaning.specs.Match.{Way, at-root, by, TreeShaped}
-use Rattle.meaning.specs.Elements.{full}
-use Rattle.meaning.specs.Machine.{bearing, live}
+use Rattle.meaning.specs.Machine.{live}
 use Rattle.meaning.specs.Carrying.{live-cases, past, into, bearers, hits}
 
 abbrev link-number : Link → ℕ

@@ -2,7 +2,7 @@
 use mathlib.Core.Path.{_≡_, refl, sym, ap, _∙_}
 use mathlib.Core.List.{List, [], _∷_, _++_}
 use mathlib.Core.Option.{Option, none, some}
-use mathlib.Core.Bool.{Bool, true, false, false≢true}
+use mathlib.Core.Bool.{true, false, false≢true}
 use lib.ListN.{length, length-append}
 use Prim.Native.Nat.{ℕ, zero, suc, _+_, _<_, _≤_}
 use native.Mathlib.Omega.{arith}
@@ -10,7 +10,7 @@ use native.Mathlib.Nat.{le-of-eq}
 use Rattle.meaning.specs.Lists.{_∈_, here, there, Distinct}
 use Rattle.meaning.specs.Document.{Link, child, descendant, by-link}
 use Rattle.meaning.specs.Trees.{Forest, end, tree, width, size}
-use Rattle.meaning.specs.Layout.{Instruction, Range, begins, ends, ranges, block, below, layout, length-block, length-layout, fetch, Stands, stands-split, stands-self}
+use Rattle.meaning.specs.Layout.{Instruction, begins, ends, ranges, block, below, layout, length-block, length-layout, fetch, Stands, stands-split, stands-self}
 
 -- So many addresses from one on.
 abbrev pub span : ℕ → ℕ → List ℕ

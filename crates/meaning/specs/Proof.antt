@@ -4,16 +4,16 @@ use mathlib.Core.Logic.{_↔_, _⊎_, inl, inr}
 use mathlib.Core.List.{List, [], _∷_, map, reverse}
 use mathlib.Core.Bool.{Bool, true, false, not, _&&_, _||_, cond}
 use lib.Dec.{T}
-use lib.ListN.{take, length, length-take}
-use native.Mathlib.Omega.{arith}
-use Prim.Native.Nat.{ℕ, zero, suc, min, _≤_}
-use Rattle.meaning.specs.Lists.{_∈_, every, some, gather, Pairs}
+use lib.ListN.{take, length}
+use Prim.Native.Nat.{ℕ, zero, suc}
+use Rattle.meaning.specs.Lists.{_∈_, every, some, full}
 use Rattle.meaning.specs.ListLaws.{some-mem, mem-some, gather-mem, mem-gather, every-cat, every-map, pair-right, pair-left, pairs-map, pairs-take, pairs-reverse}
-use Rattle.meaning.specs.Document.{Link, Place, start, Spot, spot, opened, position, closes}
+use Rattle.meaning.specs.Document.{start, spot, opened, position, closes}
 use Rattle.meaning.specs.Trees.{Forest, Node, nodes, hung}
 use Rattle.meaning.specs.Match.{Matches, Live}
-use Rattle.meaning.specs.Elements.{Name, Tag, Given, Element, element, html, has-content, name-of, position-of-name, Closes, full, Tests, Simple, on-tag, on-attributes, simple, holds, tag-holds}
-use Rattle.meaning.specs.Machine.{Program, Refusals, Call, start-tag, attributes, end-tag, ids-asked, Answer, attributes-wanted, popped, refused, nearest, first, weigh, run, ready, empty}
+use Rattle.meaning.specs.Elements.{Where, Placed, Name, Tag, Given, Element, element, html, name-of, position-of-name, Closes}
+use Rattle.meaning.specs.Tests.{Tests, on-tag, on-attributes, simple, holds, tag-holds}
+use Rattle.meaning.specs.Machine.{Program, Refusals, Call, start-tag, attributes, end-tag, ids-asked, attributes-wanted, popped, nearest, first, weigh}
 use Rattle.meaning.specs.Carries.{Carries}
 use Rattle.meaning.specs.Demand.{Moment, idle, waiting, place, address-holds, Due, Waits, Lists, StartRefusal, PushRefusal, Comes, refused-push, accepted, Does, start-refused, start-waits, start-whole, start-early, attributes-unasked, attributes-refused, attributes-whole, end-early, end-refused, end-pops, asked-top, asked-none, Goes, over, goes, Demand-3}
 use Rattle.meaning.specs.Carrying.{hits-iff, live-iff}
@@ -26,30 +26,30 @@ module _ {A : Type 0} (Q : Tests A) (f : Forest (Q .D)) (P : Program A) (C : Car
   open Carries C using (Holds)
 
   -- The tests at an address are those of the node that it holds.
-  tests-split : (d : Q .D) (s : Spot (Element A)) → holds Q d s ≡ tag-holds Q d (s .at) (s .element .tag) && every (λ x. Q .attribute-test x (s .element .tag) (s .element .given .attributes)) (Q .attribute-tests d)
+  tests-split : (d : Q .D) (s : Placed A) → holds Q d s ≡ tag-holds Q d (s .at) (s .element .tag) && every (λ x. Q .attribute-test x (s .element .tag) (s .element .given .attributes)) (Q .attribute-tests d)
   tests-split d s = every-cat (λ x. simple Q x s) (map on-tag (Q .tag-tests d)) (map on-attributes (Q .attribute-tests d)) ∙ ap₂ (λ a b. a && b) (every-map (λ x. simple Q x s) on-tag (Q .tag-tests d)) (every-map (λ x. simple Q x s) on-attributes (Q .attribute-tests d))
 
-  tests-held : (a : ℕ) (n : Node (Q .D)) → Holds a n → (s : Spot (Element A)) → address-holds P a s ≡ holds Q (n .says) s
+  tests-held : (a : ℕ) (n : Node (Q .D)) → Holds a n → (s : Placed A) → address-holds P a s ≡ holds Q (n .says) s
   tests-held a n h s = ap₂ (λ a b. a && b) (C .tag-tests a n h _ _ _) (C .attribute-tests a n h _ _) ∙ sym (tests-split (n .says) s)
 
-  node-of : (a : ℕ) (s : Spot (Element A)) → Matches (P .roots) (P .hung) (address-holds P) a s → (n : Node (Q .D)) × Holds a n × Matches (nodes f) hung (λ m. holds Q (m .says)) n s
+  node-of : (a : ℕ) (s : Placed A) → Matches (P .roots) (P .hung) (address-holds P) a s → (n : Node (Q .D)) × Holds a n × Matches (nodes f) hung (λ m. holds Q (m .says)) n s
   node-of = follows Holds (P .roots) (P .hung) (address-holds P) (nodes f) hung (λ m. holds Q (m .says))
       (pair-right (C .roots)) (λ a n h l. pair-right (C .hangs a n h l)) (λ a n h s t. rw (← tests-held a n h s) t)
 
-  address-of : (n : Node (Q .D)) (s : Spot (Element A)) → Matches (nodes f) hung (λ m. holds Q (m .says)) n s → (a : ℕ) × Holds a n × Matches (P .roots) (P .hung) (address-holds P) a s
+  address-of : (n : Node (Q .D)) (s : Placed A) → Matches (nodes f) hung (λ m. holds Q (m .says)) n s → (a : ℕ) × Holds a n × Matches (P .roots) (P .hung) (address-holds P) a s
   address-of = follows (λ n a. Holds a n) (nodes f) hung (λ m. holds Q (m .says)) (P .roots) (P .hung) (address-holds P)
       (pair-left (C .roots)) (λ n a h l. pair-left (C .hangs a n h l)) (λ n a h s t. rw (tests-held a n h s) t)
 
-  live-node : (a : ℕ) (c : Place (Element A)) → Live (P .roots) (P .hung) (address-holds P) a c → (n : Node (Q .D)) × Holds a n × Live (nodes f) hung (λ m. holds Q (m .says)) n c
+  live-node : (a : ℕ) (c : Where A) → Live (P .roots) (P .hung) (address-holds P) a c → (n : Node (Q .D)) × Holds a n × Live (nodes f) hung (λ m. holds Q (m .says)) n c
   live-node = follows-live Holds (P .roots) (P .hung) (address-holds P) (nodes f) hung (λ m. holds Q (m .says))
       (pair-right (C .roots)) (λ a n h l. pair-right (C .hangs a n h l)) (λ a n h s t. rw (← tests-held a n h s) t)
 
-  live-address : (n : Node (Q .D)) (c : Place (Element A)) → Live (nodes f) hung (λ m. holds Q (m .says)) n c → (a : ℕ) × Holds a n × Live (P .roots) (P .hung) (address-holds P) a c
+  live-address : (n : Node (Q .D)) (c : Where A) → Live (nodes f) hung (λ m. holds Q (m .says)) n c → (a : ℕ) × Holds a n × Live (P .roots) (P .hung) (address-holds P) a c
   live-address = follows-live (λ n a. Holds a n) (nodes f) hung (λ m. holds Q (m .says)) (P .roots) (P .hung) (address-holds P)
       (pair-left (C .roots)) (λ n a h l. pair-left (C .hangs a n h l)) (λ n a h s t. rw (tests-held a n h s) t)
 
   -- The ids of the nodes that match are those that are due.
-  due-ids : (s : Spot (Element A)) (i : ℕ) → (i ∈ P .list (P .unite (hits-of P s))) ↔ Due Q f s i
+  due-ids : (s : Placed A) (i : ℕ) → (i ∈ P .list (P .unite (hits-of P s))) ↔ Due Q f s i
   due-ids s i = (
     (λ h.
         let (a, m, k) = gather-mem (P .ids) (hits-of P s) (P .united (hits-of P s) i .0 h) in
@@ -69,7 +69,7 @@ module _ {A : Type 0} (Q : Tests A) (f : Forest (Q .D)) (P : Program A) (C : Car
   parts true b t = (tt, t)
   parts false b t = absurd t
 
-  must-waits : (c : Place (Element A)) (t : Tag) → T (must-wait P c t) → Waits Q f c t
+  must-waits : (c : Where A) (t : Tag) → T (must-wait P c t) → Waits Q f c t
   must-waits c t h = go (not (html t)) h
     where
       go : (b : Bool) → T (b || some (λ n. tag-ok P c t n && P .attribute-tested n) (live-of P c)) → T b ⊎ ((n : Node (Q .D)) × Live (nodes f) hung (λ m. holds Q (m .says)) n c × T (tag-holds Q (n .says) c t) × T (full (Q .attribute-tests (n .says))))
@@ -80,7 +80,7 @@ module _ {A : Type 0} (Q : Tests A) (f : Forest (Q .D)) (P : Program A) (C : Car
           let (n, q, l) = live-node a c (live-iff (P .roots) (P .hung) (address-holds P) c a .0 m) in
           inr (n, l, rw (← C .tag-tests a n q (position c) (position-of-name (t .name) c) t) u, rw (← C .attribute-tested a n q) v)
 
-  waits-must : (c : Place (Element A)) (t : Tag) → Waits Q f c t → T (must-wait P c t)
+  waits-must : (c : Where A) (t : Tag) → Waits Q f c t → T (must-wait P c t)
   waits-must c t (inl h) = go (not (html t)) h
     where
       go : (b : Bool) → T b → T (b || some (λ n. tag-ok P c t n && P .attribute-tested n) (live-of P c))
@@ -95,18 +95,18 @@ module _ {A : Type 0} (Q : Tests A) (f : Forest (Q .D)) (P : Program A) (C : Car
       go true h = tt
       go false h = h
 
-  module _ (R : Refusals A) (ghost : Place (Element A) → Tag → Given A) where
-    lists-due : (s : Spot (Element A)) → Lists Q f P R ghost (P .unite (hits-of P s)) s
+  module _ (R : Refusals A) (ghost : Where A → Tag → Given A) where
+    lists-due : (s : Placed A) → Lists Q f P R ghost (P .unite (hits-of P s)) s
     lists-due s = (P .rising (P .unite (hits-of P s)), due-ids s)
 
-    push-refusal-said : (c : Place (Element A)) (e : Element A) → PushRefusal Q f P R ghost c e (push-said P R ghost c e)
+    push-refusal-said : (c : Where A) (e : Element A) → PushRefusal Q f P R ghost c e (push-said P R ghost c e)
     push-refusal-said c e = (weigh P (stack-of P c) (e .tag), _, loads P (C .tree-shaped) c (e .tag), gives P (C .tree-shaped) (spot c e), refl)
 
-    comes : (old : Moment A) (c : Place (Element A)) (e : Element A) (r : ℕ) → push-said P R ghost c e ≡ r → Comes Q f P R ghost old c e (comes-if P R ghost r old c e .0) (comes-if P R ghost r old c e .1)
+    comes : (old : Moment A) (c : Where A) (e : Element A) (r : ℕ) → push-said P R ghost c e ≡ r → Comes Q f P R ghost old c e (comes-if P R ghost r old c e .0) (comes-if P R ghost r old c e .1)
     comes old c e zero z = accepted (rw z at (push-refusal-said c e)) (lists-due (spot c e))
     comes old c e (suc r) z = refused-push (rw z at (push-refusal-said c e))
 
-    starts : (c : Place (Element A)) (t : Tag) (r : ℕ) → R .at-start (weigh P (stack-of P c) t) t ≡ r → Does Q f P R ghost (idle c) (start-tag t) (starts-if P R ghost r c t .0) (starts-if P R ghost r c t .1)
+    starts : (c : Where A) (t : Tag) (r : ℕ) → R .at-start (weigh P (stack-of P c) t) t ≡ r → Does Q f P R ghost (idle c) (start-tag t) (starts-if P R ghost r c t .0) (starts-if P R ghost r c t .1)
     starts c t zero z = go (must-wait P c t) refl
       where
         e : Element A
@@ -120,18 +120,18 @@ module _ {A : Type 0} (Q : Tests A) (f : Forest (Q .D)) (P : Program A) (C : Car
         go false q = start-whole free (λ w. rw q at (waits-must c t w)) (comes (idle c) c e (push-said P R ghost c e) refl)
     starts c t (suc r) z = start-refused (weigh P (stack-of P c) t, loads P (C .tree-shaped) c t, z)
 
-    resumes : (c : Place (Element A)) (t : Tag) (g : Given A) (r : ℕ) → R .at-attributes (g .attributes) ≡ r
+    resumes : (c : Where A) (t : Tag) (g : Given A) (r : ℕ) → R .at-attributes (g .attributes) ≡ r
         → Does Q f P R ghost (waiting c t) (attributes g) (comes-if P R ghost (first r (push-said P R ghost c (element t g))) (waiting c t) c (element t g) .0) (comes-if P R ghost (first r (push-said P R ghost c (element t g))) (waiting c t) c (element t g) .1)
     resumes c t g zero z = attributes-whole z (comes (waiting c t) c (element t g) (push-said P R ghost c (element t g)) refl)
     resumes c t g (suc r) z = attributes-refused z
 
-    ends : (c : Place (Element A)) (x : Name) (room n : ℕ) → Closes x (opened c) (take n (opened c)) → length (take n (opened c)) ≡ n → (r : ℕ) → R .at-end x room n ≡ r → Does Q f P R ghost (idle c) (end-tag x room) (ends-if P R ghost r c n .0) (ends-if P R ghost r c n .1)
+    ends : (c : Where A) (x : Name) (room n : ℕ) → Closes x (opened c) (take n (opened c)) → length (take n (opened c)) ≡ n → (r : ℕ) → R .at-end x room n ≡ r → Does Q f P R ghost (idle c) (end-tag x room) (ends-if P R ghost r c n .0) (ends-if P R ghost r c n .1)
     ends c x room n h e zero z =
         subst (λ (k : ℕ). Does Q f P R ghost (idle c) (end-tag x room) (popped (reverse (take n (map (λ s. P .unite (hits-of P s)) (opened c))))) (idle (closes k c))) e
         (end-pops h (ap (R .at-end x room) e ∙ z) (pairs-reverse (pairs-take n (pairs-map (λ s. P .unite (hits-of P s)) lists-due (opened c)))))
     ends c x room n h e (suc r) z = end-refused h (ap (R .at-end x room) e ∙ z)
 
-    asked : (m : Moment A) (ss : List (Spot (Element A))) → opened (place m) ≡ ss → Does Q f P R ghost m ids-asked (top-said P ss) m
+    asked : (m : Moment A) (ss : List (Placed A)) → opened (place m) ≡ ss → Does Q f P R ghost m ids-asked (top-said P ss) m
     asked m [] e = asked-none e
     asked m (s ∷ ss) e = asked-top e (lists-due s)
 

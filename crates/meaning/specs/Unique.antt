@@ -1,29 +1,29 @@
 -- The statement of demand 3 determines the answers: no second list of answers goes with a run.
 use mathlib.Core.Path.{_≡_, refl, sym, ap, ap₂, subst, _∙_}
-use mathlib.Core.Logic.{_↔_}
 use mathlib.Core.List.{List, [], _∷_, reverse}
 use mathlib.Core.Bool.{Bool, false, true, false≢true}
 use lib.ListN.{length}
-use Prim.Native.Nat.{ℕ, zero, suc}
+use Prim.Native.Nat.{ℕ, suc}
 use native.Mathlib.Omega.{arith}
-use Rattle.meaning.specs.Lists.{_∈_, Pairs, no-pair, pair}
+use Rattle.meaning.specs.Lists.{Pairs, no-pair, pair}
 use Rattle.meaning.specs.ListLaws.{length-same, rising-same}
-use Rattle.meaning.specs.Document.{Place, Spot, spot, opened, closes}
+use Rattle.meaning.specs.Document.{spot, opened, closes}
 use Rattle.meaning.specs.Trees.{Forest}
-use Rattle.meaning.specs.Elements.{Tag, Given, Element, element, has-content, Tests}
-use Rattle.meaning.specs.Machine.{Program, Load, Refusals, Call, start-tag, attributes, end-tag, ids-asked, Answer, matched, attributes-wanted, popped, top-ids, nothing-open, refused, sum}
+use Rattle.meaning.specs.Elements.{Where, Placed, Tag, Given, Element, element, has-content}
+use Rattle.meaning.specs.Tests.{Tests}
+use Rattle.meaning.specs.Machine.{Program, Load, Refusals, Call, Answer, matched, attributes-wanted, popped, top-ids, nothing-open, refused, sum}
 use Rattle.meaning.specs.Demand.{Moment, idle, waiting, Givers, load, Loads, Lists, StartRefusal, PushRefusal, Comes, refused-push, accepted, Does, start-refused, start-waits, start-whole, start-early, attributes-unasked, attributes-refused, attributes-whole, end-early, end-refused, end-pops, asked-top, asked-none, Goes, over, goes}
 use Rattle.meaning.specs.Names.{closes-one}
 
 module _ {A : Type 0} (P : Program A) where
-  givers-one : (s : Spot (Element A)) (g h : ℕ) → Givers P g s → Givers P h s → g ≡ h
+  givers-one : (s : Placed A) (g h : ℕ) → Givers P g s → Givers P h s → g ≡ h
   givers-one s g h (ns, e, d, u) (ms, e′, d′, v) = sym e ∙ length-same ns ms d d′ (λ n. ((λ m. v n .1 (u n .0 m)), (λ m. u n .1 (v n .0 m)))) ∙ e′
 
-  all-givers-one : (ss : List (Spot (Element A))) (gs hs : List ℕ) → Pairs (Givers P) gs ss → Pairs (Givers P) hs ss → gs ≡ hs
+  all-givers-one : (ss : List (Placed A)) (gs hs : List ℕ) → Pairs (Givers P) gs ss → Pairs (Givers P) hs ss → gs ≡ hs
   all-givers-one ss gs hs no-pair no-pair = refl
   all-givers-one (s ∷ ss) (g ∷ gs) (h ∷ hs) (pair a p) (pair b q) = ap₂ {C = List ℕ} (λ x y. x ∷ y) (givers-one s g h a b) (all-givers-one ss gs hs p q)
 
-  pub loads-one : (c : Place (Element A)) (t : Tag) (w v : Load) → Loads P c t w → Loads P c t v → w ≡ v
+  pub loads-one : (c : Where A) (t : Tag) (w v : Load) → Loads P c t w → Loads P c t v → w ≡ v
   loads-one c t w v (gs, p, e) (hs, q, e′) = e ∙ ap (λ l. load P c t (sum l)) (all-givers-one (opened c) gs hs p q) ∙ sym e′
 
   -- Two answers that say the same: alike but for how a set of ids is held.
@@ -35,18 +35,18 @@ module _ {A : Type 0} (P : Program A) where
     same-nothing : Same nothing-open nothing-open
     same-refused : {r q : ℕ} → r ≡ q → Same (refused r) (refused q)
 
-module _ {A : Type 0} (Q : Tests A) (f : Forest (Q .D)) (P : Program A) (R : Refusals A) (ghost : Place (Element A) → Tag → Given A) where
-  lists-one : (s : Spot (Element A)) (x y : P .Ids) → Lists Q f P R ghost x s → Lists Q f P R ghost y s → P .list x ≡ P .list y
+module _ {A : Type 0} (Q : Tests A) (f : Forest (Q .D)) (P : Program A) (R : Refusals A) (ghost : Where A → Tag → Given A) where
+  lists-one : (s : Placed A) (x y : P .Ids) → Lists Q f P R ghost x s → Lists Q f P R ghost y s → P .list x ≡ P .list y
   lists-one s x y (r, u) (q, v) = rising-same (P .list x) (P .list y) r q (λ i. ((λ m. v i .1 (u i .0 m)), (λ m. u i .1 (v i .0 m))))
 
-  all-lists-one : (ss : List (Spot (Element A))) (xs ys : List (P .Ids)) → Pairs (Lists Q f P R ghost) xs ss → Pairs (Lists Q f P R ghost) ys ss → Pairs (λ x y. P .list x ≡ P .list y) xs ys
+  all-lists-one : (ss : List (Placed A)) (xs ys : List (P .Ids)) → Pairs (Lists Q f P R ghost) xs ss → Pairs (Lists Q f P R ghost) ys ss → Pairs (λ x y. P .list x ≡ P .list y) xs ys
   all-lists-one ss xs ys no-pair no-pair = no-pair
   all-lists-one (s ∷ ss) (x ∷ xs) (y ∷ ys) (pair a p) (pair b q) = pair (lists-one s x y a b) (all-lists-one ss xs ys p q)
 
-  start-one : (c : Place (Element A)) (t : Tag) (r q : ℕ) → StartRefusal Q f P R ghost c t r → StartRefusal Q f P R ghost c t q → r ≡ q
+  start-one : (c : Where A) (t : Tag) (r q : ℕ) → StartRefusal Q f P R ghost c t r → StartRefusal Q f P R ghost c t q → r ≡ q
   start-one c t r q (w, l, e) (v, k, d) = sym e ∙ ap (λ z. R .at-start z t) (loads-one P c t w v l k) ∙ d
 
-  push-one : (c : Place (Element A)) (e : Element A) (r q : ℕ) → PushRefusal Q f P R ghost c e r → PushRefusal Q f P R ghost c e q → r ≡ q
+  push-one : (c : Where A) (e : Element A) (r q : ℕ) → PushRefusal Q f P R ghost c e r → PushRefusal Q f P R ghost c e q → r ≡ q
   push-one c e r q (w, g, l, m, z) (v, h, k, n, y) = sym z ∙ ap₂ (λ a b. R .at-push a (has-content e) b) (loads-one P c (e .tag) w v l k) (givers-one P (spot c e) g h m n) ∙ y
 
   -- The answers say the same, and the run stands at the same moment.
@@ -56,7 +56,7 @@ module _ {A : Type 0} (Q : Tests A) (f : Forest (Q .D)) (P : Program A) (R : Ref
   not-none : {X : Type 0} (r : ℕ) → suc r ≡ 0 → X
   not-none r e = absurd (let z : ⊥ = omega arith in z)
 
-  comes-one : (old : Moment A) (c : Place (Element A)) (e : Element A) (a b : Answer (P .Ids)) (m k : Moment A) → Comes Q f P R ghost old c e a m → Comes Q f P R ghost old c e b k → Agree a m b k
+  comes-one : (old : Moment A) (c : Where A) (e : Element A) (a b : Answer (P .Ids)) (m k : Moment A) → Comes Q f P R ghost old c e a m → Comes Q f P R ghost old c e b k → Agree a m b k
   comes-one old c e a b m k (refused-push {r = r} u) (refused-push {r = q} v) = (same-refused (push-one c e (suc r) (suc q) u v), refl)
   comes-one old c e a b m k (refused-push {r = r} u) (accepted v l) = not-none r (push-one c e (suc r) 0 u v)
   comes-one old c e a b m k (accepted u l) (refused-push {r = r} v) = not-none r (push-one c e (suc r) 0 v u)
