@@ -8,7 +8,8 @@ use Rattle.meaning.specs.Lists.{keep, put-if, some}
 use Rattle.meaning.specs.ListLaws.{join}
 use Rattle.meaning.specs.Document.{Link, child, descendant, start, after, inside, spot, before, opened, position, enter, close, closes}
 use Rattle.meaning.specs.Elements.{Where, Placed, Name, same-name, Tag, Given, Element, element, html, content, has-content, name-of, position-of-name}
-use Rattle.meaning.specs.Machine.{Program, Refusals, Call, start-tag, attributes, end-tag, ids-asked, Answer, matched, attributes-wanted, popped, top-ids, nothing-open, refused, Stack, Machine, ready, waits, empty, times-of, count-name, Scan, done, stuck, bearing, live, nearest, first, carried, live-at, accept, pop, pops, number-of-name, tag-passes, passes, scan-if, begin, weigh, top-of, push-refusal, answer-if, begun, begin-if, close-if, step, run}
+use Rattle.meaning.specs.Calls.{Program, Refusals, Call, start-tag, attributes, end-tag, ids-asked, Answer, matched, attributes-wanted, popped, top-ids, nothing-open, refused}
+use Rattle.meaning.specs.Machine.{Stack, Machine, ready, waits, empty, times-of, count-name, Scan, done, stuck, bearing, live, nearest, first, carried, live-at, accept, pop, pops, number-of-name, tag-passes, passes, scan-if, begin, weigh, top-of, push-refusal, answer-if, begun, begin-if, close-if, step, run}
 use Rattle.meaning.specs.Demand.{Moment, idle, waiting, address-holds}
 use Rattle.meaning.specs.Carrying.{bearers, hits}
 use Rattle.meaning.specs.Scanning.{asks, scan-asks, finish, finish-scan}

@@ -1,36 +1,19 @@
 -- No node is live or counted twice in any run, so there are never more of them than the forest has nodes.
-use mathlib.Core.Path.{_≡_, refl, ap}
+use mathlib.Core.Path.{_≡_, refl}
 use mathlib.Core.List.{List, [], _∷_}
 use lib.ListN.{length}
-use Prim.Native.Nat.{ℕ, zero, suc, _+_, _-_, _<_, _≤_}
-use native.Mathlib.Omega.{arith}
-use Rattle.meaning.specs.Lists.{_∈_, here, there, Distinct}
-use Rattle.meaning.specs.ListLaws.{length-within}
+use Prim.Native.Nat.{ℕ, _<_, _≤_}
+use Rattle.meaning.specs.Lists.{there, Distinct}
 use Rattle.meaning.specs.Document.{Link, start}
 use Rattle.meaning.specs.Elements.{Where, Placed, Tag, Given, Element}
 use Rattle.meaning.specs.Match.{Way, TreeShaped}
-use Rattle.meaning.specs.Machine.{Program, Refusals, Call, Stack, Machine, ready, waits, empty, live-at, step}
+use Rattle.meaning.specs.Calls.{Program, Refusals, Call}
+use Rattle.meaning.specs.Machine.{Stack, Machine, ready, waits, empty, live-at, step}
 use Rattle.meaning.specs.Demand.{Moment, idle, place, address-holds}
 use Rattle.meaning.specs.Carrying.{bearers}
 use Rattle.meaning.specs.Once.{Sound, bearers-once, live-once, hits-once}
 use Rattle.meaning.specs.Answering.{hits-of, live-of, stack-of, live-carried, Stood, at-rest, held, said, step-said}
-use Rattle.meaning.specs.Owners.{span}
-
-span-mem : (a n x : ℕ) → a ≤ x → x < a + n → x ∈ span a n
-span-mem a zero x h k = absurd (let z : ⊥ = omega arith in z)
-span-mem a (suc n) x h k = go (x - a) refl (λ j. span-mem (suc a) n x j (omega arith))
-  where
-    go : (d : ℕ) → x - a ≡ d → (suc a ≤ x → x ∈ span (suc a) n) → x ∈ span a (suc n)
-    go zero e ih = let q : x ≡ a = omega arith in here q
-    go (suc d) e ih = there (ih (omega arith))
-
-length-span : (a n : ℕ) → length (span a n) ≡ n
-length-span a zero = refl
-length-span a (suc n) = ap suc (length-span (suc a) n)
-
--- Numbers below n, each once, are at most n.
-pub at-most : (n : ℕ) (xs : List ℕ) → Distinct xs → ((x : ℕ) → x ∈ xs → x < n) → length xs ≤ n
-at-most n xs d h = let a = length-within xs (span 0 n) d (λ x m. let b = h x m in span-mem 0 n x (omega arith) (omega arith)) in let b = length-span 0 n in omega arith
+use Rattle.meaning.specs.Spans.{at-most}
 
 abbrev pub stack-in : {Ids : Type 0} → Machine Ids → Stack Ids
 stack-in (ready k) = k

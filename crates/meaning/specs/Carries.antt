@@ -7,7 +7,7 @@ use Rattle.meaning.specs.Trees.{Forest, Node, nodes, hung, some-node}
 use Rattle.meaning.specs.Match.{TreeShaped}
 use Rattle.meaning.specs.Elements.{Tag}
 use Rattle.meaning.specs.Tests.{Tests}
-use Rattle.meaning.specs.Machine.{Program}
+use Rattle.meaning.specs.Calls.{Program}
 
 -- A program holds a forest: the addresses are its nodes, with their links, their tests and their ids. The layout of a forest is such a program (Compiled); so are rows in a store.
 pub record Carries {A : Type 0} (Q : Tests A) (f : Forest (Q .D)) (P : Program A) : Type 1 where

@@ -14,9 +14,10 @@ use Rattle.meaning.specs.Layout.{Instruction, layout, block, below, begi
 use Rattle.meaning.specs.Match.{Way, at-root, by, TreeShaped}
 use Rattle.meaning.specs.Elements.{Tag}
 use Rattle.meaning.specs.Tests.{Tests}
-use Rattle.meaning.specs.Machine.{Program}
+use Rattle.meaning.specs.Calls.{Program}
 use Rattle.meaning.specs.Carries.{Carries}
-use Rattle.meaning.specs.Owners.{own, Good, owners, layout-owned, owned-mem, span, distinct-span, fetch-below}
+use Rattle.meaning.specs.Owners.{own, Good, owners, layout-owned, owned-mem, fetch-below}
+use Rattle.meaning.specs.Spans.{span, distinct-span}
 use Rattle.meaning.specs.Sorted.{sorted, sorted-rising, sorted-mem}
 
 -- Some test of the node is nth-of-type.

@@ -6,13 +6,14 @@ use mathlib.Core.Bool.{Bool, not, _&&_, cond}
 use lib.Dec.{T}
 use lib.ListN.{length}
 use Prim.Native.Nat.{ℕ, suc}
-use Rattle.meaning.specs.Lists.{_∈_, Distinct, Pairs, Rising, full}
+use Rattle.meaning.specs.Lists.{_∈_, Distinct, Pairs, Rising, full, sum}
 use Rattle.meaning.specs.Document.{child, start, spot, before, opened, position, enter, closes}
 use Rattle.meaning.specs.Trees.{Forest, Node, nodes, hung}
 use Rattle.meaning.specs.Match.{Matches, Live}
 use Rattle.meaning.specs.Elements.{Where, Placed, Name, Tag, Given, Element, element, html, has-content, name-of, new-name, position-of-name, Closes, pairs}
 use Rattle.meaning.specs.Tests.{Tests, holds, tag-holds}
-use Rattle.meaning.specs.Machine.{Program, Load, Refusals, Call, start-tag, attributes, end-tag, ids-asked, Answer, matched, attributes-wanted, popped, top-ids, nothing-open, refused, sum, run, ready, empty}
+use Rattle.meaning.specs.Calls.{Program, Load, Refusals, Call, start-tag, attributes, end-tag, ids-asked, Answer, matched, attributes-wanted, popped, top-ids, nothing-open, refused}
+use Rattle.meaning.specs.Machine.{run, ready, empty}
 use Rattle.meaning.specs.Carries.{Carries}
 
 -- Where a run stands in its document: the next tag would come here; or this tag waits here.

@@ -8,7 +8,8 @@ use Rattle.meaning.specs.Trees.{Forest, end, tree, size}
 use Rattle.meaning.specs.Layout.{layout, below}
 use Rattle.meaning.specs.Elements.{Name, same-name}
 use Rattle.meaning.specs.Tests.{Tests}
-use Rattle.meaning.specs.Machine.{Call, start-tag, end-tag, ids-asked, Answer, matched, popped, top-ids, nothing-open, refused, ready, empty, run}
+use Rattle.meaning.specs.Calls.{Call, start-tag, end-tag, ids-asked, Answer, matched, popped, top-ids, nothing-open, refused}
+use Rattle.meaning.specs.Machine.{ready, empty, run}
 use Rattle.meaning.specs.Limits.{section-2, refusals}
 use Rattle.meaning.specs.Compiled.{compiled}
 

@@ -1,3 +1,4 @@
+-- What is meant, in reading order: documents, trees and their layout, selectors and matching, elements and tests.
 pub mod Lists
 pub mod Document
 pub mod Trees
@@ -6,9 +7,13 @@ pub mod Selectors
 pub mod Match
 pub mod Elements
 pub mod Tests
-pub mod Machine
+-- What is demanded of a machine, and the machine that is proved to do it.
+pub mod Calls
+pub mod Limits
 pub mod Carries
+pub mod Machine
 pub mod Demand
+-- The proof.
 pub mod ListLaws
 pub mod Carrying
 pub mod Scanning
@@ -18,10 +23,11 @@ pub mod Once
 pub mod Loading
 pub mod Following
 pub mod Proof
+pub mod Unique
+-- The layout of a forest as a program, bounds, and the examples of 01, section 6.
+pub mod Spans
 pub mod Sorted
 pub mod Owners
 pub mod Compiled
 pub mod Bounds
-pub mod Unique
-pub mod Limits
 pub mod Examples

@@ -4,7 +4,7 @@ use lib.Dec.{eqb, ltb, leb}
 use lib.ListN.{length}
 use Prim.Native.Nat.{ℕ, _+_, _*_}
 use Rattle.meaning.specs.Elements.{Name}
-use Rattle.meaning.specs.Machine.{Refusals}
+use Rattle.meaning.specs.Calls.{Refusals}
 
 pub record Limits : Type 0 where
   pub name : ℕ  -- the longest name

@@ -3,7 +3,7 @@ use mathlib.Core.Path.{_≡_}
 use mathlib.Core.List.{List, [], _∷_, _++_}
 use mathlib.Core.Bool.{Bool, true, false, not, _&&_, _||_}
 use lib.Dec.{eqb}
-use Prim.Native.Nat.{ℕ, _<_}
+use Prim.Native.Nat.{ℕ, _+_, _<_}
 
 module _ {A : Type 0} where
   infix 50 _∈_
@@ -55,6 +55,10 @@ pub data Pairs {A B : Type 0} (R : A → B → Type 0) : List A → List B → T
 -- ---- Lists of numbers as sets.
 abbrev pub has : ℕ → List ℕ → Bool
 has x ys = some (eqb x) ys
+
+abbrev pub sum : List ℕ → ℕ
+sum [] = 0
+sum (n ∷ ns) = n + sum ns
 
 -- The numbers of a list that another lacks.
 abbrev pub minus : List ℕ → List ℕ → List ℕ

@@ -5,12 +5,13 @@ use mathlib.Core.Bool.{Bool, true, false, not, _&&_, _||_, cond}
 use lib.ListN.{length}
 use native.Mathlib.Omega.{arith}
 use Prim.Native.Nat.{ℕ, suc, _+_}
-use Rattle.meaning.specs.Lists.{some, Pairs, no-pair, pair, full}
+use Rattle.meaning.specs.Lists.{some, Pairs, no-pair, pair, full, sum}
 use Rattle.meaning.specs.ListLaws.{keep-mem, mem-keep, distinct-keep}
 use Rattle.meaning.specs.Document.{child, start, after, inside, spot, before, opened}
 use Rattle.meaning.specs.Match.{TreeShaped}
 use Rattle.meaning.specs.Elements.{Where, Placed, Name, same-name, Tag, name-of, new-name, pairs}
-use Rattle.meaning.specs.Machine.{Program, known, count-name, sum, bearing, counted, pairs-of, weigh}
+use Rattle.meaning.specs.Calls.{Program}
+use Rattle.meaning.specs.Machine.{known, count-name, bearing, counted, pairs-of, weigh}
 use Rattle.meaning.specs.Demand.{address-holds, Givers, Loads}
 use Rattle.meaning.specs.Carrying.{hits-iff}
 use Rattle.meaning.specs.Once.{hits-once}

@@ -1,64 +1,16 @@
--- The machine: a stack of open elements, and the tag that waits for its attributes (01, sections 2 to 4). It knows tests only by promise.
-use mathlib.Core.Path.{_≡_}
-use mathlib.Core.Logic.{_↔_}
+-- The machine: a stack of open elements, and the tag that waits for its attributes (01, sections 3 and 4).
 use mathlib.Core.List.{List, [], _∷_, _++_, map, reverse}
 use mathlib.Core.Bool.{Bool, true, false, not, _&&_, cond}
 use lib.ListN.{take, length}
 use Prim.Native.Nat.{ℕ, zero, suc, _+_}
-use Rattle.meaning.specs.Lists.{_∈_, keep, some, gather, minus, Rising, full}
+use Rattle.meaning.specs.Lists.{keep, some, gather, sum, minus, full}
 use Rattle.meaning.specs.Document.{Link, child, descendant, links}
+use Rattle.meaning.specs.Calls.{Program, Load, Refusals, Call, start-tag, attributes, end-tag, ids-asked, Answer, matched, attributes-wanted, popped, top-ids, nothing-open, refused}
 use Rattle.meaning.specs.Elements.{Name, same-name, Tag, Given, html, content}
-
--- ---- What the machine is given.
-
--- A compiled sheet: nodes are addresses, and tests are known by these laws only.
-pub record Program (A : Type 0) : Type 1 where
-  pub roots : List ℕ
-  pub hung : Link → ℕ → List ℕ
-  pub tag-tests : ℕ → (position position-of-name : ℕ) → Tag → Bool  -- all tag tests of the node hold
-  pub attribute-tested : ℕ → Bool  -- it has an attribute test
-  pub attribute-tests : ℕ → Tag → A → Bool  -- all attribute tests of the node hold
-  pub untested : (n : ℕ) → attribute-tested n ≡ false → (t : Tag) (a : A) → attribute-tests n t a ≡ true
-  pub types-counted : Bool  -- nth-of-type is in use
-  pub uncounted : types-counted ≡ false → (n i j k : ℕ) (t : Tag) → tag-tests n i j t ≡ tag-tests n i k t
-  pub ids : ℕ → List ℕ  -- the ids of the node
-  pub Ids : Type 0  -- sets of ids
-  pub unite : List ℕ → Ids  -- the ids of these nodes
-  pub list : Ids → List ℕ
-  pub rising : (x : Ids) → Rising (list x)
-  pub united : (ns : List ℕ) (i : ℕ) → (i ∈ list (unite ns)) ↔ (i ∈ gather ids ns)
-
--- What the limits of section 2 look at when a tag comes.
-pub record Load : Type 0 where
-  pub children : ℕ  -- how many children the parent, or the root, has so far
-  pub new-pair : Bool  -- types are counted, and the name is new at this level
-  pub pairs : ℕ  -- live pairs of name and level
-  pub opens : ℕ  -- open elements
-  pub givers : ℕ  -- matched nodes with child trees, summed over the open elements
-
--- When a call is refused, and by which number; 0 is none. Any limits will do.
-pub record Refusals (A : Type 0) : Type 0 where
-  pub at-start : Load → Tag → ℕ  -- 20, 21, 25, 26
-  pub at-attributes : A → ℕ  -- 24
-  pub at-push : Load → (content : Bool) → (givers : ℕ) → ℕ  -- 27, 28
-  pub at-end : Name → (room popped : ℕ) → ℕ  -- 20, 29
-
-pub data Call (A : Type 0) : Type 0 where
-  start-tag : Tag → Call A
-  attributes : Given A → Call A
-  end-tag : Name → (room : ℕ) → Call A  -- with the room of the buffer for popped ids
-  ids-asked : Call A
-
-pub data Answer (Ids : Type 0) : Type 0 where
-  matched : Ids → (content : Bool) → Answer Ids
-  attributes-wanted : Answer Ids
-  popped : List Ids → Answer Ids
-  top-ids : Ids → Answer Ids
-  nothing-open : Answer Ids
-  refused : ℕ → Answer Ids
 
 -- ---- What the machine holds.
 
+-- How many elements of a name there are on a level.
 pub record Counter : Type 0 where
   pub name : Name
   pub times : ℕ
@@ -86,14 +38,16 @@ pub data Machine (Ids : Type 0) : Type 0 where
   ready : Stack Ids → Machine Ids
   waits : Stack Ids → Tag → (found rest : List ℕ) → Machine Ids
 
+-- A level where nothing is counted, and the stack of a fresh machine.
 abbrev pub bare : Level
 bare = record { children = 0; types = [] }
 
 abbrev pub empty : {Ids : Type 0} → Stack Ids
 empty = record { top = bare; items = [] }
 
--- ---- Counting.
+-- ---- What it holds is counted and gone through.
 
+-- How often a name was counted, the list with it counted once more, and whether it was counted at all.
 abbrev pub times-of : Name → List Counter → ℕ
 times-of x [] = 0
 times-of x (y ∷ ys) = cond (same-name x (y .name)) (y .times) (times-of x ys)
@@ -104,10 +58,6 @@ count-name x (y ∷ ys) = cond (same-name x (y .name)) (record { name = y .name;
 
 abbrev pub known : Name → List Counter → Bool
 known x ys = some (λ y. same-name x (y .name)) ys
-
-abbrev pub sum : List ℕ → ℕ
-sum [] = 0
-sum (n ∷ ns) = n + sum ns
 
 -- ---- Live nodes.
 
@@ -160,6 +110,7 @@ first (suc q) r = suc q
 module _ {A : Type 0} (P : Program A) where
   open Program P using (roots, hung, tag-tests, attribute-tested, attribute-tests, types-counted, Ids, unite)
 
+  -- The nodes of the top element whose child trees are live, and of all open elements whose descendant trees are, outermost first.
   abbrev pub parents-of : List (Item Ids) → List ℕ
   parents-of [] = []
   parents-of (f ∷ fs) = f .parents
@@ -168,22 +119,34 @@ module _ {A : Type 0} (P : Program A) where
   ancestors-of [] = []
   ancestors-of (f ∷ fs) = ancestors-of fs ++ f .ancestors
 
-  -- The nodes whose trees are live for each link: child, those of the top element; descendant, those of all open elements, outermost first.
+  -- The nodes whose trees are live for each link.
   abbrev pub carried : Stack Ids → Link → List ℕ
   carried k child = parents-of (k .items)
   carried k descendant = ancestors-of (k .items)
 
+  -- The live nodes: roots, child ranges of the top element, descendant ranges of all open elements.
   abbrev pub live-at : Stack Ids → List ℕ
   live-at k = live roots hung (carried k)
 
+  -- A level with one more child of the name.
   abbrev pub counted : Level → Name → Level
   counted v x = record { children = suc (v .children); types = cond types-counted (count-name x (v .types)) (v .types) }
 
   -- A tag is accepted: it is counted, and pushed if it has content.
   abbrev pub accept : Bool → Stack Ids → Tag → List ℕ → Stack Ids
   accept false k t found = record { top = counted (k .top) (t .name); items = k .items }
-  accept true k t found = record { top = bare; items = record { name = t .name; ids = unite found; parents = bearing roots hung child found; ancestors = minus (bearing roots hung descendant found) (carried k descendant); outer = counted (k .top) (t .name) } ∷ k .items }
+  accept true k t found = record {
+    top = bare;
+    items = record {
+      name = t .name;
+      ids = unite found;
+      parents = bearing roots hung child found;
+      ancestors = minus (bearing roots hung descendant found) (carried k descendant);
+      outer = counted (k .top) (t .name);
+    } ∷ k .items;
+  }
 
+  -- The innermost element is popped: the level on which it stands is open again. So for n of them.
   abbrev pub pop : List (Item Ids) → Stack Ids
   pop [] = empty
   pop (f ∷ fs) = record { top = f .outer; items = fs }
@@ -199,6 +162,7 @@ module _ {A : Type 0} (P : Program A) where
   abbrev pub number-of-name : Stack Ids → Name → ℕ
   number-of-name k x = suc (times-of x (k .top .types))
 
+  -- The tag tests of a node hold for a tag that comes now; and with attributes all its tests.
   abbrev pub tag-passes : Stack Ids → Tag → ℕ → Bool
   tag-passes k t n = tag-tests n (number k) (number-of-name k (t .name)) t
 
@@ -213,25 +177,37 @@ module _ {A : Type 0} (P : Program A) where
   abbrev pub begin : Stack Ids → Tag → Scan
   begin k t = scan-if (html t) k t
 
+  -- Pairs of name and level that are held.
   abbrev pub pairs-of : Stack Ids → ℕ
   pairs-of k = length (k .top .types) + sum (map (λ f. length (f .outer .types)) (k .items))
 
+  -- What the limits look at.
   abbrev pub weigh : Stack Ids → Tag → Load
-  weigh k t = record { children = k .top .children; new-pair = types-counted && not (known (t .name) (k .top .types)); pairs = pairs-of k; opens = length (k .items); givers = sum (map (λ f. length (f .parents)) (k .items)) }
+  weigh k t = record {
+    children = k .top .children;
+    new-pair = types-counted && not (known (t .name) (k .top .types));
+    pairs = pairs-of k;
+    opens = length (k .items);
+    givers = sum (map (λ f. length (f .parents)) (k .items));
+  }
 
+  -- The id set of the top open element.
   abbrev pub top-of : List (Item Ids) → Answer Ids
   top-of [] = nothing-open
   top-of (f ∷ fs) = top-ids (f .ids)
 
   -- `R` says what is refused. A refused call leaves the machine as it was.
   module _ (R : Refusals A) where
+    -- The refusal of a tag that is whole, or 0, if these nodes match.
     abbrev pub push-refusal : Stack Ids → Tag → Bool → List ℕ → ℕ
     push-refusal k t content found = R .at-push (weigh k t) content (length (bearing roots hung child found))
 
+    -- The answer to a tag that is whole, unless it is refused.
     abbrev pub answer-if : ℕ → Machine Ids → Stack Ids → Tag → Bool → List ℕ → Answer Ids × Machine Ids
     answer-if zero old k t content found = (matched (unite found) content, ready (accept content k t found))
     answer-if (suc r) old k t content found = (refused (suc r), old)
 
+    -- The answer to a start tag: complete if no attributes are needed, else it waits. Nothing is counted yet.
     abbrev pub begun : Stack Ids → Tag → Scan → Answer Ids × Machine Ids
     begun k t (done found) = answer-if (push-refusal k t (content t false) found) (ready k) k t (content t false) found
     begun k t (stuck found rest) = (attributes-wanted, waits k t found rest)
@@ -240,7 +216,7 @@ module _ {A : Type 0} (P : Program A) where
     begin-if zero k t = begun k t (begin k t)
     begin-if (suc r) k t = (refused (suc r), ready k)
 
-    -- Resuming: the nodes found so far, then all that pass of the rest.
+    -- The answer to attributes, if these nodes match.
     abbrev pub resume : Machine Ids → Stack Ids → Tag → Given A → List ℕ → Answer Ids × Machine Ids
     resume old k t g found = answer-if (first (R .at-attributes (g .attributes)) (push-refusal k t (content t (g .self-closing)) found)) old k t (content t (g .self-closing)) found
 
@@ -252,6 +228,7 @@ module _ {A : Type 0} (P : Program A) where
     abbrev pub end-if : Stack Ids → Name → ℕ → ℕ → Answer Ids × Machine Ids
     end-if k x room n = close-if (R .at-end x room n) k n
 
+    -- One call: the answer, and the machine after it.
     abbrev pub step : Machine Ids → Call A → Answer Ids × Machine Ids
     step (ready k) (start-tag t) = begin-if (R .at-start (weigh k t) t) k t
     step (ready k) (attributes g) = (refused 23, ready k)
@@ -262,6 +239,7 @@ module _ {A : Type 0} (P : Program A) where
     step (waits k t found rest) (end-tag x room) = (refused 22, waits k t found rest)
     step (waits k t found rest) ids-asked = (top-of (k .items), waits k t found rest)
 
+    -- The answers to a list of calls.
     abbrev pub run : Machine Ids → List (Call A) → List (Answer Ids)
     run m [] = []
     run m (x ∷ xs) = step m x .0 ∷ run (step m x .1) xs

@@ -1,29 +1,16 @@
 -- Whose each address of a layout is: each hangs from one address by one link, or is a root.
-use mathlib.Core.Path.{_≡_, refl, sym, ap, _∙_}
+use mathlib.Core.Path.{_≡_, refl, ap, _∙_}
 use mathlib.Core.List.{List, [], _∷_, _++_}
 use mathlib.Core.Option.{Option, none, some}
 use mathlib.Core.Bool.{true, false, false≢true}
 use lib.ListN.{length, length-append}
-use Prim.Native.Nat.{ℕ, zero, suc, _+_, _<_, _≤_}
+use Prim.Native.Nat.{ℕ, zero, suc, _+_, _<_}
 use native.Mathlib.Omega.{arith}
-use native.Mathlib.Nat.{le-of-eq}
-use Rattle.meaning.specs.Lists.{_∈_, here, there, Distinct}
+use Rattle.meaning.specs.Lists.{_∈_, here, there}
+use Rattle.meaning.specs.Spans.{span}
 use Rattle.meaning.specs.Document.{Link, child, descendant, by-link}
 use Rattle.meaning.specs.Trees.{Forest, end, tree, width, size}
 use Rattle.meaning.specs.Layout.{Instruction, begins, ends, ranges, block, below, layout, length-block, length-layout, fetch, Stands, stands-split, stands-self}
-
--- So many addresses from one on.
-abbrev pub span : ℕ → ℕ → List ℕ
-span a zero = []
-span a (suc n) = a ∷ span (suc a) n
-
-from-span : (a n b : ℕ) → b ∈ span a n → a ≤ b
-from-span a (suc n) b (here e) = le-of-eq (sym e)
-from-span a (suc n) b (there h) = let k = from-span (suc a) n b h in omega arith
-
-pub distinct-span : (a n : ℕ) → Distinct (span a n)
-distinct-span a zero = tt
-distinct-span a (suc n) = ((λ h. let k = from-span (suc a) n a h in omega arith), distinct-span (suc a) n)
 
 pub fetch-below : {X : Type 0} (xs : List X) (a : ℕ) (x : X) → fetch xs a ≡ some x → a < length xs
 fetch-below [] a x e = let q : false ≡ true = cc in absurd (false≢true q)

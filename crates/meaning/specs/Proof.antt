@@ -13,7 +13,8 @@ use Rattle.meaning.specs.Trees.{Forest, Node, nodes, hung}
 use Rattle.meaning.specs.Match.{Matches, Live}
 use Rattle.meaning.specs.Elements.{Where, Placed, Name, Tag, Given, Element, element, html, name-of, position-of-name, Closes}
 use Rattle.meaning.specs.Tests.{Tests, on-tag, on-attributes, simple, holds, tag-holds}
-use Rattle.meaning.specs.Machine.{Program, Refusals, Call, start-tag, attributes, end-tag, ids-asked, attributes-wanted, popped, nearest, first, weigh}
+use Rattle.meaning.specs.Calls.{Program, Refusals, Call, start-tag, attributes, end-tag, ids-asked, attributes-wanted, popped}
+use Rattle.meaning.specs.Machine.{nearest, first, weigh}
 use Rattle.meaning.specs.Carries.{Carries}
 use Rattle.meaning.specs.Demand.{Moment, idle, waiting, place, address-holds, Due, Waits, Lists, StartRefusal, PushRefusal, Comes, refused-push, accepted, Does, start-refused, start-waits, start-whole, start-early, attributes-unasked, attributes-refused, attributes-whole, end-early, end-refused, end-pops, asked-top, asked-none, Goes, over, goes, Demand-3}
 use Rattle.meaning.specs.Carrying.{hits-iff, live-iff}

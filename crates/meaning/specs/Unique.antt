@@ -5,13 +5,13 @@ use mathlib.Core.Bool.{Bool, false, true, false≢true}
 use lib.ListN.{length}
 use Prim.Native.Nat.{ℕ, suc}
 use native.Mathlib.Omega.{arith}
-use Rattle.meaning.specs.Lists.{Pairs, no-pair, pair}
+use Rattle.meaning.specs.Lists.{Pairs, no-pair, pair, sum}
 use Rattle.meaning.specs.ListLaws.{length-same, rising-same}
 use Rattle.meaning.specs.Document.{spot, opened, closes}
 use Rattle.meaning.specs.Trees.{Forest}
 use Rattle.meaning.specs.Elements.{Where, Placed, Tag, Given, Element, element, has-content}
 use Rattle.meaning.specs.Tests.{Tests}
-use Rattle.meaning.specs.Machine.{Program, Load, Refusals, Call, Answer, matched, attributes-wanted, popped, top-ids, nothing-open, refused, sum}
+use Rattle.meaning.specs.Calls.{Program, Load, Refusals, Call, Answer, matched, attributes-wanted, popped, top-ids, nothing-open, refused}
 use Rattle.meaning.specs.Demand.{Moment, idle, waiting, Givers, load, Loads, Lists, StartRefusal, PushRefusal, Comes, refused-push, accepted, Does, start-refused, start-waits, start-whole, start-early, attributes-unasked, attributes-refused, attributes-whole, end-early, end-refused, end-pops, asked-top, asked-none, Goes, over, goes}
 use Rattle.meaning.specs.Names.{closes-one}
 
