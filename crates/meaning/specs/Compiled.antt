@@ -1,23 +1,28 @@
 -- A program that says at each address what the layout of a forest says there carries the forest. The layout itself is one; rows in a store are another.
 use mathlib.Core.Path.{_≡_, refl, sym, ap₂}
-use mathlib.Core.Logic.{⊎-elim}
+use mathlib.Core.Logic.{_↔_, _⊎_, inl, inr, ⊎-elim}
 use mathlib.Core.Option.{Option, none, some}
 use mathlib.Core.List.{List, [], _∷_, _++_}
 use mathlib.Core.Bool.{Bool, true, false, _&&_, _||_, false≢true}
-use Prim.Native.Nat.{ℕ, zero, suc, _<_}
+use lib.Dec.{ltb}
+use lib.ListN.{length}
+use borrow.Author.Tests.{ltb-true, ltb-false}
+use native.Mathlib.Omega.{arith}
+use Prim.Native.Nat.{_+_, _≤_, ℕ, zero, suc, _<_}
 use Rattle.meaning.specs.Lists as lists
 use Rattle.meaning.specs.Lists.{_∈_, here, there, every, gather, Distinct, Pairs, no-pair, pair, full}
 use Rattle.meaning.specs.ListLaws.{∈-split}
 use Rattle.meaning.specs.Document.{Link, child, descendant}
 use Rattle.meaning.specs.Trees.{Forest, end, tree, Node, nodes, hung, width, size, some-node}
-use Rattle.meaning.specs.Layout.{Instruction, layout, block, below, begins, ends, fetch, Laid, length-layout, layout-laid}
-use Rattle.meaning.specs.Match.{Way, at-root, by, TreeShaped}
-use Rattle.meaning.specs.Elements.{Tag}
-use Rattle.meaning.specs.Tests.{Tests}
+use Rattle.meaning.specs.Layout.{Instruction, layout, block, below, begins, ends, ranges, fetch, Stands, stands-split, stands-self, length-block, length-below, length-three, Laid, length-layout, layout-laid}
+use Rattle.meaning.specs.Match.{Matches, Way, at-root, by, selector, TreeShaped, matches-selector}
+use Rattle.meaning.specs.Selectors.{all-hold, Selects}
+use Rattle.meaning.specs.Elements.{Placed, Tag}
+use Rattle.meaning.specs.Tests.{Tests, Simple, simple, compound}
 use Rattle.meaning.specs.Calls.{Program}
 use Rattle.meaning.specs.Carries.{Carries}
 use Rattle.meaning.specs.Owners.{own, Good, owners, layout-owned, owned-mem, fetch-below}
-use Rattle.meaning.specs.Spans.{span, distinct-span}
+use Rattle.meaning.specs.Spans.{span, distinct-span, span-mem}
 use Rattle.meaning.specs.Sorted.{sorted, sorted-rising, sorted-mem}
 
 -- Some test of the node is nth-of-type.
@@ -45,6 +50,13 @@ module _ {D : Type 0} (f : Forest D) where
   unfolding Laid
   laid-pairs end a h = no-pair
   laid-pairs (tree d k g) a (i, e, s, ks, r) = pair (record { instruction = i; there-is = e; same = s; below = ks }) (laid-pairs g (suc a) r)
+
+before-or-not : (x m : ℕ) → (x < m) ⊎ (m ≤ x)
+before-or-not x m = go (ltb x m) refl
+  where
+    go : (b : Bool) → ltb x m ≡ b → (x < m) ⊎ (m ≤ x)
+    go true e = inl (ltb-true x m e)
+    go false e = inr (ltb-false x m e)
 
 module _ {A : Type 0} (Q : Tests A) (f : Forest (Q .D)) (P : Program A) (reads : Reads Q f P) where
   -- ---- Each address hangs from one address by one link.
@@ -82,6 +94,33 @@ module _ {A : Type 0} (Q : Tests A) (f : Forest (Q .D)) (P : Program A) (reads :
   -- They are below the number of nodes.
   pub way-below : (a : ℕ) → Way (P .roots) (P .hung) a → a < size f
   way-below a way = let g = way-whole a way in let h = fetch-below (layout 0 f) a (g .instruction) (g .there-is) in rw length-layout at h
+
+  -- And to each address below that a way leads.
+  ways-step : (b : ℕ) (g : Forest (Q .D)) → ((a m : ℕ) → Stands (layout 0 f) a (block m g) → Stands (layout 0 f) m (below m g) → ((x : ℕ) → x ∈ span a (width g) → Way (P .roots) (P .hung) x) → (x : ℕ) → m ≤ x → x < m + length (below m g) → Way (P .roots) (P .hung) x)
+      → Stands (layout 0 f) b (layout b g) → ((x : ℕ) → x ∈ span b (width g) → Way (P .roots) (P .hung) x) → (x : ℕ) → b ≤ x → x < b + size g → Way (P .roots) (P .hung) x
+  ways-step b g ih st ws x lo hi =
+      let (u, v) = stands-split (layout 0 f) b (block (b + width g) g) (below (b + width g) g) st in
+      let l = length-below (b + width g) g in
+      ⊎-elim (λ h. ws x (span-mem b (width g) x lo h)) (λ h. ih b (b + width g) u (rw length-block at v) ws x h (omega arith)) (before-or-not x (b + width g))
+
+  ways-out : (g : Forest (Q .D)) (a m : ℕ) → Stands (layout 0 f) a (block m g) → Stands (layout 0 f) m (below m g) → ((x : ℕ) → x ∈ span a (width g) → Way (P .roots) (P .hung) x) → (x : ℕ) → m ≤ x → x < m + length (below m g) → Way (P .roots) (P .hung) x
+  unfolding Stands below
+  ways-out end a m st bl ws x lo hi = absurd (let z : ⊥ = omega arith in z)
+  ways-out (tree d k g) a m st bl ws x lo hi =
+      let (h₁, r₁) = stands-split (layout 0 f) m (layout (begins m k child) (k child)) _ bl in
+      let (h₂, r₂) = stands-split (layout 0 f) _ (layout (begins m k descendant) (k descendant)) _ (rw length-layout at r₁) in
+      let hangs : (l : Link) (y : ℕ) → y ∈ span (begins m k l) (width (k l)) → Way (P .roots) (P .hung) y = λ l y h. by {m = a} {n = y} (ws a (here refl)) l (rw (reads .hung a (record { says = d; range = ranges m k }) (st .0) l) h) in
+      let e₁ = length-layout (begins m k child) (k child) in
+      let e₂ = length-layout (begins m k descendant) (k descendant) in
+      let e = length-three (layout (begins m k child) (k child)) (layout (begins m k descendant) (k descendant)) (below (ends m k) g) in
+      ⊎-elim (λ q. ways-step (begins m k child) (k child) (ways-out (k child)) h₁ (hangs child) x lo q)
+      (λ q. ⊎-elim (λ r. ways-step (begins m k descendant) (k descendant) (ways-out (k descendant)) h₂ (hangs descendant) x q r)
+      (λ r. ways-out g (suc a) (ends m k) (st .1) (rw length-layout at r₂) (λ y h. ws y (there h)) x r (omega arith))
+      (before-or-not x (ends m k)))
+      (before-or-not x (m + size (k child)))
+
+  pub every-way : (a : ℕ) → a < size f → Way (P .roots) (P .hung) a
+  every-way a h = ways-step 0 f (ways-out f) (stands-self (layout 0 f)) (λ x m. at-root (rw (reads .roots) m)) a (omega arith) (omega arith)
 
   pub reads-carries : Carries Q f P
   reads-carries = record {
@@ -190,3 +229,12 @@ module _ {A : Type 0} (Q : Tests A) (f : Forest (Q .D)) where
   -- The layout carries its forest.
   pub compiled-carries : Carries Q f compiled
   compiled-carries = reads-carries Q f compiled compiled-reads
+
+  -- The compound selector of the node at an address.
+  abbrev pub compound-at : ℕ → List (Simple Q)
+  compound-at a = at a [] (compound Q)
+
+  -- To each node of a forest one complex selector leads, and the node matches an element exactly when that selects it.
+  pub node-selector : (a : ℕ) → a < size f
+      → (way : Way (compiled .roots) (compiled .hung) a) × ((s : Placed A) → Matches (compiled .roots) (compiled .hung) (λ n s. all-hold (simple Q) (compound-at n) s) a s ↔ Selects (simple Q) (selector (compiled .roots) (compiled .hung) compound-at way) s)
+  node-selector a h = let way = every-way Q f compiled compiled-reads a h in (way, matches-selector (compiled .roots) (compiled .hung) compound-at (simple Q) (reads-shaped Q f compiled compiled-reads) way)

@@ -97,7 +97,7 @@ module _ {D : Type 0} where
   length-joined : (m : ℕ) (f : Forest D) → width f + length (below m f) ≡ size f → length (block m f ++ below m f) ≡ size f
   length-joined m f h = length-append (block m f) (below m f) ∙ ap (λ x. x + length (below m f)) (length-block m f) ∙ h
 
-  length-three : (a b c : List (Instruction D)) → length (a ++ (b ++ c)) ≡ length a + (length b + length c)
+  pub length-three : (a b c : List (Instruction D)) → length (a ++ (b ++ c)) ≡ length a + (length b + length c)
   length-three a b c = simp length-append
 
   pub length-below : (m : ℕ) (f : Forest D) → width f + length (below m f) ≡ size f

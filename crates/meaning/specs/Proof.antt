@@ -10,9 +10,10 @@ use Rattle.meaning.specs.Lists.{_∈_, every, some, full}
 use Rattle.meaning.specs.ListLaws.{some-mem, mem-some, gather-mem, mem-gather, every-cat, every-map, pair-right, pair-left, pairs-map, pairs-take, pairs-reverse}
 use Rattle.meaning.specs.Document.{start, spot, opened, position, closes}
 use Rattle.meaning.specs.Trees.{Forest, Node, nodes, hung}
-use Rattle.meaning.specs.Match.{Matches, Live}
+use Rattle.meaning.specs.Match.{Matches, Live, Way, selector, matches-selects}
+use Rattle.meaning.specs.Selectors.{Selects}
 use Rattle.meaning.specs.Elements.{Where, Placed, Name, Tag, Given, Element, element, html, name-of, position-of-name, Closes}
-use Rattle.meaning.specs.Tests.{Tests, on-tag, on-attributes, simple, holds, tag-holds}
+use Rattle.meaning.specs.Tests.{Tests, on-tag, on-attributes, simple, compound, holds, tag-holds}
 use Rattle.meaning.specs.Calls.{Program, Refusals, Call, start-tag, attributes, end-tag, ids-asked, attributes-wanted, popped}
 use Rattle.meaning.specs.Machine.{nearest, first, weigh}
 use Rattle.meaning.specs.Carries.{Carries}
@@ -152,3 +153,11 @@ module _ {A : Type 0} (Q : Tests A) (f : Forest (Q .D)) (P : Program A) (C : Car
 
 pub demand-3 : Demand-3
 demand-3 A Q f P C R ghost xs = rw (faithful P R ghost xs) (due-goes Q f P C R ghost (idle start) xs)
+
+-- In W3C's words: an id is due exactly when a complex selector that leads to a node which carries it selects the element.
+pub due-selected : {A : Type 0} (Q : Tests A) (f : Forest (Q .D)) (s : Placed A) (i : ℕ)
+    → Due Q f s i ↔ ((n : Node (Q .D)) × ((way : Way (nodes f) hung n) × Selects (simple Q) (selector (nodes f) hung (λ m. compound Q (m .says)) way) s) × (i ∈ Q .ids (n .says)))
+due-selected Q f s i = (
+  (λ (n, m, h). (n, matches-selects (nodes f) hung (λ m. compound Q (m .says)) (simple Q) n s .0 m, h)),
+  (λ (n, m, h). (n, matches-selects (nodes f) hung (λ m. compound Q (m .says)) (simple Q) n s .1 m, h)),
+)
