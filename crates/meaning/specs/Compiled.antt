@@ -12,14 +12,17 @@ use Prim.Native.Nat.{_+_, _≤_, ℕ, zero, suc, _<_}
 use Rattle.meaning.specs.Lists as lists
 use Rattle.meaning.specs.Lists.{_∈_, here, there, every, gather, Distinct, Pairs, no-pair, pair, full}
 use Rattle.meaning.specs.ListLaws.{∈-split}
-use Rattle.meaning.specs.Document.{Link, child, descendant}
+use Rattle.meaning.specs.Document.{Link, child, descendant, start}
 use Rattle.meaning.specs.Trees.{Forest, end, tree, Node, nodes, hung, width, size, some-node}
 use Rattle.meaning.specs.Layout.{Instruction, layout, block, below, begins, ends, ranges, fetch, Stands, stands-split, stands-self, length-block, length-below, length-three, Laid, length-layout, layout-laid}
 use Rattle.meaning.specs.Match.{Matches, Way, at-root, by, selector, TreeShaped, matches-selector}
 use Rattle.meaning.specs.Selectors.{all-hold, Selects}
-use Rattle.meaning.specs.Elements.{Placed, Tag}
+use Rattle.meaning.specs.Elements.{Where, Placed, Tag, Given}
 use Rattle.meaning.specs.Tests.{Tests, Simple, simple, compound}
-use Rattle.meaning.specs.Calls.{Program}
+use Rattle.meaning.specs.Calls.{Program, Refusals, Call}
+use Rattle.meaning.specs.Machine.{run, ready, empty}
+use Rattle.meaning.specs.Demand.{idle, Goes}
+use Rattle.meaning.specs.Proof.{demand-3}
 use Rattle.meaning.specs.Carries.{Carries}
 use Rattle.meaning.specs.Owners.{own, Good, owners, layout-owned, owned-mem, fetch-below}
 use Rattle.meaning.specs.Spans.{span, distinct-span, span-mem}
@@ -229,6 +232,10 @@ module _ {A : Type 0} (Q : Tests A) (f : Forest (Q .D)) where
   -- The layout carries its forest.
   pub compiled-carries : Carries Q f compiled
   compiled-carries = reads-carries Q f compiled compiled-reads
+
+  -- Demand 3 for the machine over the layout.
+  pub compiled-answers : (R : Refusals A) (ghost : Where A → Tag → Given A) (xs : List (Call A)) → Goes Q f compiled R ghost (idle start) xs (run compiled R (ready empty) xs)
+  compiled-answers R ghost xs = demand-3 A Q f compiled compiled-carries R ghost xs
 
   -- The compound selector of the node at an address.
   abbrev pub compound-at : ℕ → List (Simple Q)
