@@ -1,12 +1,12 @@
 -- What joins a machine's addresses to the nodes of a forest.
 use mathlib.Core.Path.{_≡_}
 use Prim.Native.Nat.{ℕ}
-use Rattle.meaning.specs.Lists.{some, every, Pairs, full}
+use Rattle.meaning.specs.Lists.{every, Pairs, full}
 use Rattle.meaning.specs.Document.{Link}
 use Rattle.meaning.specs.Trees.{Forest, Node, nodes, hung, some-node}
 use Rattle.meaning.specs.Match.{TreeShaped}
 use Rattle.meaning.specs.Elements.{Tag}
-use Rattle.meaning.specs.Tests.{Tests}
+use Rattle.meaning.specs.Tests.{Tests, of-type-tested}
 use Rattle.meaning.specs.Calls.{Program}
 
 -- A program holds a forest: the addresses are its nodes, with their links, their tests and their ids. The layout of a forest is such a program (Compiled); so are rows in a store.
@@ -19,4 +19,4 @@ pub record Carries {A : Type 0} (Q : Tests A) (f : Forest (Q .D)) (P : Program A
   pub attribute-tested : (a : ℕ) (n : Node (Q .D)) → Holds a n → P .attribute-tested a ≡ full (Q .attribute-tests (n .says))
   pub attribute-tests : (a : ℕ) (n : Node (Q .D)) → Holds a n → (t : Tag) (g : A) → P .attribute-tests a t g ≡ every (λ x. Q .attribute-test x t g) (Q .attribute-tests (n .says))
   pub ids : (a : ℕ) (n : Node (Q .D)) → Holds a n → P .ids a ≡ Q .ids (n .says)
-  pub types : P .types-counted ≡ some-node (λ d. some (Q .of-type) (Q .tag-tests d)) f
+  pub types : P .types-counted ≡ some-node (of-type-tested Q) f

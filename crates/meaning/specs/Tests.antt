@@ -3,7 +3,7 @@ use mathlib.Core.Path.{_≡_}
 use mathlib.Core.List.{List, _++_, map}
 use mathlib.Core.Bool.{Bool, false}
 use Prim.Native.Nat.{ℕ}
-use Rattle.meaning.specs.Lists.{every}
+use Rattle.meaning.specs.Lists.{some, every}
 use Rattle.meaning.specs.Document.{position}
 use Rattle.meaning.specs.Selectors.{all-hold}
 use Rattle.meaning.specs.Elements.{Tag, Where, Placed, name-of, position-of-name}
@@ -42,3 +42,7 @@ module _ {A : Type 0} (Q : Tests A) where
   -- All its tag tests hold for a tag at a place.
   abbrev pub tag-holds : Q .D → Where A → Tag → Bool
   tag-holds d c t = every (λ x. Q .tag-test x (position c) (position-of-name (t .name) c) t) (Q .tag-tests d)
+
+  -- Some test of a node is nth-of-type.
+  abbrev pub of-type-tested : Q .D → Bool
+  of-type-tested d = some (Q .of-type) (Q .tag-tests d)
