@@ -1,8 +1,8 @@
 -- Links, places in a document, and what a link reaches from a place (01, section 4; Selectors 4, combinators).
-use mathlib.Core.Path.{refl}
+use mathlib.Core.Path.{_≡_, refl, ap, _∙_}
 use mathlib.Core.List.{List, [], _∷_}
 use mathlib.Core.Bool.{Bool, true, false}
-use lib.ListN.{length}
+use lib.ListN.{length, drop}
 use Prim.Native.Nat.{ℕ, zero, suc}
 use Rattle.meaning.specs.Lists.{_∈_, here, there, keep}
 
@@ -79,3 +79,18 @@ close (inside c e) = after c e
 abbrev pub closes : {E : Type 0} → ℕ → Place E → Place E
 closes zero c = c
 closes (suc n) c = closes n (close c)
+
+-- ---- Closing leaves open what was open outside.
+opened-close : {E : Type 0} (c : Place E) → opened (close c) ≡ drop 1 (opened c)
+opened-close start = refl
+opened-close (after c e) = opened-close c
+opened-close (inside c e) = refl
+
+drop-drop : {A : Type 0} (n : ℕ) (xs : List A) → drop n (drop 1 xs) ≡ drop (suc n) xs
+drop-drop zero [] = refl
+drop-drop (suc n) [] = refl
+drop-drop n (x ∷ xs) = refl
+
+pub opened-closes : {E : Type 0} (n : ℕ) (c : Place E) → opened (closes n c) ≡ drop n (opened c)
+opened-closes zero c = refl
+opened-closes (suc n) c = opened-closes n (close c) ∙ ap (drop n) (opened-close c) ∙ drop-drop n (opened c)

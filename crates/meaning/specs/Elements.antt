@@ -11,12 +11,14 @@ use Rattle.meaning.specs.Document.{Place, start, after, inside, Spot, be
 abbrev pub Name : Type 0
 Name = List ℕ
 
+-- Whether two names are the same.
 abbrev pub same-name : Name → Name → Bool
 same-name [] [] = true
 same-name [] (y ∷ ys) = false
 same-name (x ∷ xs) [] = false
 same-name (x ∷ xs) (y ∷ ys) = eqb x y && same-name xs ys
 
+-- A start tag without its attributes.
 pub record Tag : Type 0 where
   pub name : Name
   pub namespace : ℕ  -- 0 HTML, 1 SVG, 2 MathML
@@ -27,6 +29,7 @@ pub record Given (A : Type 0) : Type 0 where
   pub self-closing : Bool
   pub attributes : A
 
+-- A start tag with its attributes.
 pub record Element (A : Type 0) : Type 0 where
   pub tag : Tag
   pub given : Given A
@@ -41,6 +44,7 @@ Placed A = Spot (Element A)
 abbrev pub element : {A : Type 0} → Tag → Given A → Element A
 element t g = record { tag = t; given = g }
 
+-- Whether a tag is of namespace HTML.
 abbrev pub html : Tag → Bool
 html t = eqb (t .namespace) 0
 
@@ -52,6 +56,7 @@ abbrev pub has-content : {A : Type 0} → Element A → Bool
 has-content e = content (e .tag) (e .given .self-closing)
 
 module _ {A : Type 0} where
+  -- The name of an element.
   abbrev pub name-of : Placed A → Name
   name-of s = s .element .tag .name
 

@@ -1,4 +1,4 @@
--- Words about lists that the definitions use: member of, keep, some, every, gather, distinct.
+-- Words about lists that the definitions use.
 use mathlib.Core.Path.{_≡_}
 use mathlib.Core.List.{List, [], _∷_, _++_}
 use mathlib.Core.Bool.{Bool, true, false, not, _&&_, _||_}
@@ -17,6 +17,7 @@ module _ {A : Type 0} where
   Distinct [] = Unit
   Distinct (x ∷ xs) = ¬ (x ∈ xs) × Distinct xs
 
+  -- A list with one member more, if so it is told.
   abbrev pub put-if : Bool → A → List A → List A
   put-if true x xs = x ∷ xs
   put-if false x xs = xs
@@ -52,10 +53,13 @@ pub data Pairs {A B : Type 0} (R : A → B → Type 0) : List A → List B → T
   no-pair : Pairs R [] []
   pair : {a : A} {b : B} {xs : List A} {ys : List B} → R a b → Pairs R xs ys → Pairs R (a ∷ xs) (b ∷ ys)
 
--- ---- Lists of numbers as sets.
+-- ---- Lists of numbers.
+
+-- A number is in a list.
 abbrev pub has : ℕ → List ℕ → Bool
 has x ys = some (eqb x) ys
 
+-- All numbers of a list together.
 abbrev pub sum : List ℕ → ℕ
 sum [] = 0
 sum (n ∷ ns) = n + sum ns

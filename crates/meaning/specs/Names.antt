@@ -25,6 +25,10 @@ pub same-name-self : (x : Name) → same-name x x ≡ true
 same-name-self [] = refl
 same-name-self (x ∷ xs) = rw (eq-eqb x x refl) (same-name-self xs)
 
+-- Two names are the same exactly when they are equal.
+pub same-names : (x y : Name) → (same-name x y ≡ true) ↔ (x ≡ y)
+same-names x y = (same-name-eq x y, λ e. ap (same-name x) (sym e) ∙ same-name-self x)
+
 -- A name is counted once more, and no other.
 pub times-count : (x y : Name) (r : List Counter) → times-of x (count-name y r) ≡ cond (same-name x y) (suc (times-of x r)) (times-of x r)
 times-count x y [] = refl

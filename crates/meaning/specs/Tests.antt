@@ -27,6 +27,7 @@ module _ {A : Type 0} (Q : Tests A) where
     on-tag : Q .TagTest → Simple
     on-attributes : Q .AttributeTest → Simple
 
+  -- When it holds for an element.
   abbrev pub simple : Simple → Placed A → Bool
   simple (on-tag x) s = Q .tag-test x (position (s .at)) (position-of-name (name-of s) (s .at)) (s .element .tag)
   simple (on-attributes x) s = Q .attribute-test x (s .element .tag) (s .element .given .attributes)
