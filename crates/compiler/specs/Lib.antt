@@ -1,3 +1,4 @@
 pub mod Program
 pub mod Compiler
 pub mod Placing
+pub mod Examples
