@@ -12,9 +12,10 @@ use Rattle.meaning.specs.Layout.{Instruction, begins, ends, ranges, block, belo
 use Rattle.sheet.specs.Records.{NodeRecord, recordAt, endOf, childCount, descendantCount}
 use Rattle.sheet.specs.Spelling.{Inside, Spells, spelt-width}
 use Rattle.compiler.specs.Program.{row, rows}
+use Rattle.compiler.specs.StoreLaws.{length-row, length-rows}
 use Rattle.compiler.specs.Placing.{instructionAt, Laid, layNode, layMany, layAt, layTrees, Room}
 use Rattle.compiler.proofs.Sets.{sets-append, gather}
-use Rattle.compiler.proofs.RowLaws.{length-row, rows-append, length-rows, row-same}
+use Rattle.compiler.proofs.RowLaws.{rows-append, row-same}
 
 -- ---- the recursion, one step
 

@@ -14,19 +14,10 @@ use Rattle.sheet.specs.Records.{NodeRecord, recordAt, endOf, countsAt, tagCount
 use Rattle.compiler.specs.Program.{nodeKey, words, row, rows}
 use Rattle.compiler.specs.Placing.{instructionAt}
 
-pub length-row : (i : Instruction NodeRecord) → length (row i) ≡ 8
-unfolding row words
-length-row i = refl
-
 pub rows-append : (xs ys : List (Instruction NodeRecord)) → rows (xs ++ ys) ≡ rows xs ++ rows ys
 unfolding rows
 rows-append [] ys = refl
 rows-append (i ∷ xs) ys = ap (λ (l : List ℕ). row i ++ l) (rows-append xs ys) ∙ sym (append-assoc (row i) (rows xs) (rows ys))
-
-pub length-rows : (xs : List (Instruction NodeRecord)) → length (rows xs) ≡ length xs * 8
-unfolding rows
-length-rows [] = refl
-length-rows (i ∷ xs) = let h = length-rows xs in let r = length-row i in rw length-append (omega arith)
 
 -- eight stores, one after the other
 module _ (l : List ℕ) (a : ℕ) where

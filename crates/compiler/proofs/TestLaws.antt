@@ -13,8 +13,9 @@ use Rattle.cells.specs.Numbers.{part, be16, i32At}
 use Rattle.rules.specs.Names.{nameKey}
 use Rattle.rules.specs.Tests.{TagTest, any, unmatchable, localName, nthChild, nthOfType, tagKind, readTagTest}
 use Rattle.sheet.specs.Records.{recordAt, endOf, tagCount, testsAt, testBytes, testsFrom}
+use Rattle.sheet.specs.Meaning.{ofType}
 use Rattle.sheet.specs.Spelling.{TestsInside, Inside}
-use Rattle.compiler.specs.Program.{tagKey, testKey, nodeKey, ofType, anyOfType}
+use Rattle.compiler.specs.Program.{tagKey, testKey, nodeKey, anyOfType}
 use Rattle.compiler.specs.Placing.{RecordsInside, recordsUse}
 
 -- no key where the kind is not 3

@@ -10,8 +10,9 @@ use Rattle.meaning.specs.Layout.{below}
 use Rattle.rules.specs.Names.{hashOf, nameKey}
 use Rattle.rules.specs.Tests.{tagKind, readTagTest}
 use Rattle.sheet.specs.Records.{testsFrom, testsEnd, recordAt}
+use Rattle.sheet.specs.Meaning.{ofType}
 use Rattle.sheet.specs.Parser.{thenStep, kindOk, nameLengthOk, comparisonOk, bodyOk, checkTest, checkTests, rising, checkCounts, checkIds, checkRecord, andThen, afterStep, parseTree, parseMany, treeAt, parseTrees, parseEnd, parseSheet}
-use Rattle.compiler.specs.Program.{tagKey, testKey, nodeKey, words, row, rows, ofType, anyOfType, usesNthOfType}
+use Rattle.compiler.specs.Program.{tagKey, testKey, nodeKey, words, row, rows, anyOfType, usesNthOfType}
 use Rattle.compiler.specs.Compiler.{compiledOf, storeOf}
 use Rattle.compiler.specs.declared.compiler.Compiled.{Compiled}
 

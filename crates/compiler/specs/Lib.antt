@@ -1,4 +1,5 @@
 pub mod Program
 pub mod Compiler
+pub mod StoreLaws
 pub mod Placing
 pub mod Examples

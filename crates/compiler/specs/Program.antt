@@ -1,5 +1,5 @@
 -- Instruction rows (program.rs): what stands in the store of a compiled sheet.
-use mathlib.Core.Bool.{Bool, true, false, cond, _||_}
+use mathlib.Core.Bool.{Bool, false, cond, _||_}
 use mathlib.Core.List.{List, [], _∷_, _++_}
 use Prim.Native.Nat.{ℕ, _+_, _*_}
 use lib.ListN.{length}
@@ -9,6 +9,7 @@ use Rattle.meaning.specs.Layout.{Instruction}
 use Rattle.rules.specs.Names.{nameKey}
 use Rattle.rules.specs.Tests.{Negatable, TagTest, any, unmatchable, localName, nthChild, nthOfType}
 use Rattle.sheet.specs.Records.{NodeRecord}
+use Rattle.sheet.specs.Meaning.{ofType}
 
 -- The key of a local name; 0, which is no name's key, for any other test.
 unfoldable pub tagKey : TagTest → ℕ
@@ -45,14 +46,7 @@ unfoldable pub rows : List (Instruction NodeRecord) → List ℕ
 rows [] = []
 rows (i ∷ instructions) = row i ++ rows instructions
 
--- Kind 5, also negated.
-unfoldable pub ofType : TagTest → Bool
-ofType any = false
-ofType unmatchable = false
-ofType (localName name) = false
-ofType (nthChild step offset) = false
-ofType (nthOfType step offset) = true
-
+-- Some test is of kind 5, also negated.
 unfoldable pub anyOfType : List (Negatable TagTest) → Bool
 anyOfType [] = false
 anyOfType (t ∷ tests) = ofType (t .test) || anyOfType tests

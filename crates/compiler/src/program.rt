@@ -11,8 +11,9 @@ ghost use lib.ListN.{length};
 ghost use lib.Seq.{sets};
 ghost use Rattle.rules.specs.Tests.{readTagTest};
 ghost use Rattle.sheet.specs.Records.{recordAt, endOf, testsFrom, childCount, descendantCount};
+ghost use Rattle.sheet.specs.Meaning.{ofType};
 ghost use Rattle.sheet.specs.Spelling.{TestsInside, Inside};
-ghost use Rattle.compiler.specs.Program.{testKey, nodeKey, words, row, ofType, anyOfType};
+ghost use Rattle.compiler.specs.Program.{testKey, nodeKey, words, row, anyOfType};
 ghost use Rattle.compiler.specs.Placing.{instructionAt};
 
 // The name key of one test: its name's if it is a local name, not negated.

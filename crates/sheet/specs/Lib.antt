@@ -1,3 +1,4 @@
 pub mod Records
 pub mod Parser
 pub mod Spelling
+pub mod Meaning
