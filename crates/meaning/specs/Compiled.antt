@@ -5,10 +5,9 @@ use mathlib.Core.Option.{none, some, Option}
 use mathlib.Core.List.{List, [], _∷_}
 use mathlib.Core.Bool.{Bool, true, false, false≢true}
 use Prim.Native.Nat.{ℕ, _<_}
-use Rattle.meaning.specs.Lists as lists
-use Rattle.meaning.specs.Lists.{there, every, gather, full}
+use Rattle.meaning.specs.Lists.{every, gather, full}
 use Rattle.meaning.specs.Document.{Link, start}
-use Rattle.meaning.specs.Trees.{Forest, nodes, hung, width, size, some-node}
+use Rattle.meaning.specs.Trees.{Forest, width, size, some-node}
 use Rattle.meaning.specs.Layout.{Instruction, layout, fetch}
 use Rattle.meaning.specs.Selectors.{all-hold, Selects}
 use Rattle.meaning.specs.Match.{Way, Matches, selector, matches-selector}

@@ -9,10 +9,9 @@ use lib.ListN.{length}
 use borrow.Author.Tests.{ltb-true, ltb-false}
 use native.Mathlib.Omega.{arith}
 use Prim.Native.Nat.{_+_, _≤_, ℕ, suc, _<_}
-use Rattle.meaning.specs.Lists as lists
 use Rattle.meaning.specs.Lists.{_∈_, here, there, Distinct}
 use Rattle.meaning.specs.Document.{Link, child, descendant}
-use Rattle.meaning.specs.Trees.{Forest, end, tree, nodes, hung, width, size}
+use Rattle.meaning.specs.Trees.{Forest, end, tree, hung, width, size}
 use Rattle.meaning.specs.Layout.{Instruction, layout, block, below, begins, ends, ranges, fetch, Stands, stands-split, stands-self, length-block, length-below, length-three, length-layout}
 use Rattle.meaning.specs.Match.{Way, at-root, by, TreeShaped}
 use Rattle.meaning.specs.Spans.{span, distinct-span, span-mem}
