@@ -34,7 +34,7 @@ pub record Load : Type 0 where
   pub opens : ℕ  -- open elements
   pub givers : ℕ  -- matched nodes with child trees, summed over the open elements
 
--- When a call is refused, and by which number; 0 is none. Any limits will do.
+-- When a call is refused, and by which number; 0 is none. They are a parameter of every theorem.
 pub record Refusals (A : Type 0) : Type 0 where
   pub at-start : Load → Tag → ℕ  -- 20, 21, 25, 26
   pub at-attributes : A → ℕ  -- 24

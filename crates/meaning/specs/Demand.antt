@@ -92,7 +92,7 @@ module _ {A : Type 0} (Q : Tests A) (f : Forest (Q .D)) where
       over : {m : Moment A} → Goes m [] []
       goes : {m k : Moment A} {x : Call A} {a : Answer (P .Ids)} {xs : List (Call A)} {as′ : List (Answer (P .Ids))} → Does m x a k → Goes k xs as′ → Goes m (x ∷ xs) (a ∷ as′)
 
--- THE DEMAND, for every machine over a program that carries the forest, every limits, whatever attributes go unseen, and every list of calls. Proved in Proof: `demand-3`.
+-- THE DEMAND: for every program that carries the forest, whatever the limits, whatever attributes go unseen, and every list of calls. Proved in Proof: `demand-3`.
 abbrev pub Demand-3 : Type 1
 Demand-3 =
     (A : Type 0) (Q : Tests A) (f : Forest (Q .D)) (P : Program A) → Carries Q f P → (R : Refusals A) (ghost : Where A → Tag → Given A) (xs : List (Call A))

@@ -1,4 +1,4 @@
--- The refusals of 01, section 2, over its numbers. Nothing that is proved depends on them: every limits will do.
+-- The refusals of 01, section 2, over its numbers. No theorem depends on them.
 use mathlib.Core.Bool.{Bool, _&&_, _||_, cond}
 use lib.Dec.{eqb, ltb, leb}
 use lib.ListN.{length}
