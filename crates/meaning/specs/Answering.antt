@@ -4,14 +4,14 @@ use mathlib.Core.List.{List, [], _∷_, _++_, map, reverse}
 use mathlib.Core.Bool.{Bool, true, false, not, _&&_, _||_, cond, false≢true}
 use lib.ListN.{take, length}
 use Prim.Native.Nat.{ℕ, zero, suc}
-use Rattle.meaning.specs.Lists.{keep, put-if, some}
-use Rattle.meaning.specs.ListLaws.{join}
+use Rattle.meaning.specs.Lists.{_∈_, keep, put-if, some}
+use Rattle.meaning.specs.ListLaws.{join, keep-same, some-same}
 use Rattle.meaning.specs.Document.{Link, child, descendant, start, after, inside, spot, before, opened, position, enter, close, closes}
 use Rattle.meaning.specs.Elements.{Where, Placed, Name, same-name, Tag, Given, Element, element, html, content, has-content, name-of, position-of-name}
 use Rattle.meaning.specs.Calls.{Program, Refusals, Call, start-tag, attributes, end-tag, ids-asked, Answer, matched, attributes-wanted, popped, top-ids, nothing-open, refused}
 use Rattle.meaning.specs.Machine.{Stack, Machine, ready, waits, empty, times-of, count-name, Scan, done, stuck, bearing, live, nearest, first, carried, live-at, accept, pop, pops, number-of-name, tag-passes, passes, scan-if, begin, weigh, top-of, push-refusal, answer-if, begun, begin-if, close-if, step, run}
 use Rattle.meaning.specs.Demand.{Moment, idle, waiting, address-holds}
-use Rattle.meaning.specs.Carrying.{bearers, hits}
+use Rattle.meaning.specs.Carrying.{bearers, hits, live-way}
 use Rattle.meaning.specs.Scanning.{asks, scan-asks, finish, finish-scan}
 use Rattle.meaning.specs.Names.{times-count}
 
@@ -66,12 +66,12 @@ module _ {A : Type 0} (P : Program A) where
   times-before y (inside c e) x = refl
 
   -- The tests see the same positions.
-  passes-ok : (c : Where A) (t : Tag) (n : ℕ) → tag-passes P (stack-of c) t n ≡ tag-ok c t n
-  passes-ok c t n = ap (λ (i : ℕ). tag-tests n (suc i) (number-of-name P (stack-of c) (t .name)) t) (children-before c) ∙ go types-counted refl
+  passes-ok : (c : Where A) (t : Tag) (n : ℕ) → n ∈ live-of c → tag-passes P (stack-of c) t n ≡ tag-ok c t n
+  passes-ok c t n h = ap (λ (i : ℕ). tag-tests n (suc i) (number-of-name P (stack-of c) (t .name)) t) (children-before c) ∙ go types-counted refl
     where
       go : (b : Bool) → types-counted ≡ b → tag-tests n (position c) (number-of-name P (stack-of c) (t .name)) t ≡ tag-tests n (position c) (position-of-name (t .name) c) t
       go true y = ap (λ (j : ℕ). tag-tests n (position c) (suc j) t) (times-before y c (t .name))
-      go false y = uncounted y n _ _ _ t
+      go false y = uncounted y n (live-way roots hung (address-holds P) c n h) _ _ _ t
 
   pub names-open : (c : Where A) → map (λ f. f .name) (stack-of c .items) ≡ map name-of (opened c)
   names-open start = refl
@@ -190,13 +190,13 @@ module _ {A : Type 0} (P : Program A) where
             → Stood (waits (stack-of c) t found rest) (waiting c t)
 
       all-hits : (c : Where A) (t : Tag) (g : Given A) → keep (passes P (stack-of c) t (g .attributes)) (live-at P (stack-of c)) ≡ hits-of (spot c (element t g))
-      all-hits c t g = (λ i. keep (passes P (stack-of c) t (g .attributes)) (live-carried c i)) ∙ (λ i. keep (λ n. passes-ok c t n i && attribute-tests n t (g .attributes)) (live-of c))
+      all-hits c t g = (λ i. keep (passes P (stack-of c) t (g .attributes)) (live-carried c i)) ∙ keep-same (passes P (stack-of c) t (g .attributes)) (λ n. address-holds P n (spot c (element t g))) (live-of c) (λ n h. ap (λ b. b && attribute-tests n t (g .attributes)) (passes-ok c t n h))
 
       pub begin-hits : (c : Where A) (t : Tag) (g : Given A) → finished (stack-of c) t (g .attributes) (begin P (stack-of c) t) ≡ hits-of (spot c (element t g))
       begin-hits c t g = begin-finished (stack-of c) t (g .attributes) ∙ all-hits c t g
 
       begin-waits : (c : Where A) (t : Tag) → asks (begin P (stack-of c) t) ≡ must-wait c t
-      begin-waits c t = begin-asks (stack-of c) t ∙ (λ i. not (html t) || some (λ n. tag-passes P (stack-of c) t n && attribute-tested n) (live-carried c i)) ∙ (λ i. not (html t) || some (λ n. passes-ok c t n i && attribute-tested n) (live-of c))
+      begin-waits c t = begin-asks (stack-of c) t ∙ (λ i. not (html t) || some (λ n. tag-passes P (stack-of c) t n && attribute-tested n) (live-carried c i)) ∙ ap (λ b. not (html t) || b) (some-same (λ n. tag-passes P (stack-of c) t n && attribute-tested n) (λ n. tag-ok c t n && attribute-tested n) (live-of c) (λ n h. ap (λ b. b && attribute-tested n) (passes-ok c t n h)))
 
       -- What a machine answers and is, against what is said.
       abbrev Same : Answer Ids × Machine Ids → Answer Ids × Moment A → Type 0

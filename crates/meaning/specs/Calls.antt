@@ -6,6 +6,7 @@ use mathlib.Core.Bool.{Bool, false, true}
 use Prim.Native.Nat.{ℕ}
 use Rattle.meaning.specs.Lists.{_∈_, gather, Rising}
 use Rattle.meaning.specs.Document.{Link}
+use Rattle.meaning.specs.Match.{Way}
 use Rattle.meaning.specs.Elements.{Name, Tag, Given}
 
 -- A compiled sheet: nodes are addresses, and tests are known by these laws only.
@@ -17,7 +18,7 @@ pub record Program (A : Type 0) : Type 1 where
   pub attribute-tests : ℕ → Tag → A → Bool  -- all attribute tests of the node hold
   pub untested : (n : ℕ) → attribute-tested n ≡ false → (t : Tag) (a : A) → attribute-tests n t a ≡ true
   pub types-counted : Bool  -- nth-of-type is in use
-  pub uncounted : types-counted ≡ false → (n i j k : ℕ) (t : Tag) → tag-tests n i j t ≡ tag-tests n i k t
+  pub uncounted : types-counted ≡ false → (n : ℕ) → Way roots hung n → (i j k : ℕ) (t : Tag) → tag-tests n i j t ≡ tag-tests n i k t
   pub ids : ℕ → List ℕ  -- the ids of the node
   pub Ids : Type 0  -- sets of ids
   pub unite : List ℕ → Ids  -- the ids of these nodes
@@ -33,7 +34,7 @@ pub record Load : Type 0 where
   pub opens : ℕ  -- open elements
   pub givers : ℕ  -- matched nodes with child trees, summed over the open elements
 
--- When a call is refused, and by which number; 0 is none. Any limits will do.
+-- When a call is refused, and by which number; 0 is none. They are a parameter of every theorem.
 pub record Refusals (A : Type 0) : Type 0 where
   pub at-start : Load → Tag → ℕ  -- 20, 21, 25, 26
   pub at-attributes : A → ℕ  -- 24

@@ -8,7 +8,7 @@ use Prim.Native.Nat.{ℕ}
 use Rattle.meaning.specs.Lists.{_∈_, here, there, keep, gather, full}
 use Rattle.meaning.specs.ListLaws.{keep-mem, mem-keep, gather-mem, mem-gather, ∈-left, ∈-right, ∈-split, join, join-mem, mem-join-old, mem-join-new}
 use Rattle.meaning.specs.Document.{Link, child, descendant, links, every-link, Place, start, after, inside, Spot, spot, reach}
-use Rattle.meaning.specs.Match.{Matches, root, hangs, Live}
+use Rattle.meaning.specs.Match.{Matches, root, hangs, Live, Way, at-root, by}
 use Rattle.meaning.specs.Machine.{bearing, live}
 
 module _ (roots : List ℕ) (hung : Link → ℕ → List ℕ) where
@@ -105,3 +105,15 @@ module _ {E : Type 0} (roots : List ℕ) (hung : Link → ℕ → List ℕ) (hol
       from : Live roots hung holds n c → n ∈ live roots hung (bearers c)
       from (inl a) = live-root roots hung (bearers c) a
       from (inr (l, m, r, u, v, b)) = live-hung roots hung (bearers c) l (behind-bearers c l u (matches-hit v) (full-of (hung l m) b)) b
+
+  matches-way : {n : ℕ} {s : Spot E} → Matches roots hung holds n s → Way roots hung n
+  matches-way (root h t) = at-root h
+  matches-way (hangs l a m h t) = by (matches-way m) l h
+
+  -- A way leads to every live node.
+  pub live-way : (c : Place E) (n : ℕ) → n ∈ live roots hung (bearers c) → Way roots hung n
+  live-way c n h = go (live-iff c n .0 h)
+    where
+      go : Live roots hung holds n c → Way roots hung n
+      go (inl a) = at-root a
+      go (inr (l, m, r, u, v, b)) = by (matches-way v) l b

@@ -16,7 +16,7 @@ use Rattle.meaning.specs.Calls.{Program, Load, Refusals, Call, start-tag
 use Rattle.meaning.specs.Machine.{run, ready, empty}
 use Rattle.meaning.specs.Carries.{Carries}
 
--- Where a run stands in its document: the next tag would come here; or this tag waits here.
+-- Where a run stands in its document: the next tag would come here; or this tag waits here for its attributes.
 pub data Moment (A : Type 0) : Type 0 where
   idle : Where A → Moment A
   waiting : Where A → Tag → Moment A
@@ -68,18 +68,22 @@ module _ {A : Type 0} (Q : Tests A) (f : Forest (Q .D)) where
       refused-push : {r : ℕ} → PushRefusal c e (suc r) → Comes old c e (refused (suc r)) old
       accepted : {ids : P .Ids} → PushRefusal c e 0 → Lists ids (spot c e) → Comes old c e (matched ids (has-content e)) (idle (enter (has-content e) c e))
 
-    -- One call, its answer, and where the run stands after it.
+    -- One call, its answer, and where the run stands after it (01, sections 2 to 4).
     pub data Does : Moment A → Call A → Answer (P .Ids) → Moment A → Type 0 where
+      -- A start tag: refused; made to wait; or whole at once, whatever its attributes are; and early while another waits.
       start-refused : {c : Where A} {t : Tag} {r : ℕ} → StartRefusal c t (suc r) → Does (idle c) (start-tag t) (refused (suc r)) (idle c)
       start-waits : {c : Where A} {t : Tag} → StartRefusal c t 0 → Waits c t → Does (idle c) (start-tag t) attributes-wanted (waiting c t)
       start-whole : {c : Where A} {t : Tag} {a : Answer (P .Ids)} {m : Moment A} → StartRefusal c t 0 → ¬ (Waits c t) → Comes (idle c) c (element t (ghost c t)) a m → Does (idle c) (start-tag t) a m
       start-early : {c : Where A} {t u : Tag} → Does (waiting c t) (start-tag u) (refused 22) (waiting c t)
+      -- Attributes: none were asked for; refused; or the waiting tag is whole now, as if they had come with it.
       attributes-unasked : {c : Where A} {g : Given A} → Does (idle c) (attributes g) (refused 23) (idle c)
       attributes-refused : {c : Where A} {t : Tag} {g : Given A} {r : ℕ} → R .at-attributes (g .attributes) ≡ suc r → Does (waiting c t) (attributes g) (refused (suc r)) (waiting c t)
       attributes-whole : {c : Where A} {t : Tag} {g : Given A} {a : Answer (P .Ids)} {m : Moment A} → R .at-attributes (g .attributes) ≡ 0 → Comes (waiting c t) c (element t g) a m → Does (waiting c t) (attributes g) a m
+      -- An end tag: early while a tag waits; refused; or the ids of what it closes, in opening order.
       end-early : {c : Where A} {t : Tag} {x : Name} {room : ℕ} → Does (waiting c t) (end-tag x room) (refused 22) (waiting c t)
       end-refused : {c : Where A} {x : Name} {room r : ℕ} {ss : List (Placed A)} → Closes x (opened c) ss → R .at-end x room (length ss) ≡ suc r → Does (idle c) (end-tag x room) (refused (suc r)) (idle c)
       end-pops : {c : Where A} {x : Name} {room : ℕ} {ss : List (Placed A)} {ls : List (P .Ids)} → Closes x (opened c) ss → R .at-end x room (length ss) ≡ 0 → Pairs Lists ls (reverse ss) → Does (idle c) (end-tag x room) (popped ls) (idle (closes (length ss) c))
+      -- The id set asked: that of the innermost open element, also while a tag waits; or nothing is open.
       asked-top : {m : Moment A} {s : Placed A} {ss : List (Placed A)} {ids : P .Ids} → opened (place m) ≡ s ∷ ss → Lists ids s → Does m ids-asked (top-ids ids) m
       asked-none : {m : Moment A} → opened (place m) ≡ [] → Does m ids-asked nothing-open m
 
@@ -88,7 +92,7 @@ module _ {A : Type 0} (Q : Tests A) (f : Forest (Q .D)) where
       over : {m : Moment A} → Goes m [] []
       goes : {m k : Moment A} {x : Call A} {a : Answer (P .Ids)} {xs : List (Call A)} {as′ : List (Answer (P .Ids))} → Does m x a k → Goes k xs as′ → Goes m (x ∷ xs) (a ∷ as′)
 
--- THE DEMAND, for every machine over a program that carries the forest, every limits, whatever attributes go unseen, and every list of calls. Proved in Proof: `demand-3`.
+-- THE DEMAND: for every program that carries the forest, whatever the limits, whatever attributes go unseen, and every list of calls. Proved in Proof: `demand-3`.
 abbrev pub Demand-3 : Type 1
 Demand-3 =
     (A : Type 0) (Q : Tests A) (f : Forest (Q .D)) (P : Program A) → Carries Q f P → (R : Refusals A) (ghost : Where A → Tag → Given A) (xs : List (Call A))

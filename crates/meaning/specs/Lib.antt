@@ -28,6 +28,7 @@ pub mod Unique
 pub mod Spans
 pub mod Sorted
 pub mod Owners
+pub mod Shape
 pub mod Reading
 pub mod Compiled
 pub mod Bounds

@@ -67,6 +67,15 @@ module _ {A : Type 0} where
       go true m = there m
       go false m = m
 
+  -- Tests that agree on the members keep the same, and some member passes the one exactly when some passes the other.
+  pub keep-same : (p q : A → Bool) (xs : List A) → ((x : A) → x ∈ xs → p x ≡ q x) → keep p xs ≡ keep q xs
+  keep-same p q [] h = refl
+  keep-same p q (x ∷ xs) h = ap₂ (λ b ys. put-if b x ys) (h x (here refl)) (keep-same p q xs (λ y m. h y (there m)))
+
+  pub some-same : (p q : A → Bool) (xs : List A) → ((x : A) → x ∈ xs → p x ≡ q x) → some p xs ≡ some q xs
+  some-same p q [] h = refl
+  some-same p q (x ∷ xs) h = ap₂ (λ b c. b || c) (h x (here refl)) (some-same p q xs (λ y m. h y (there m)))
+
   -- Every member of two lists, one after the other.
   pub every-cat : (p : A → Bool) (xs ys : List A) → every p (xs ++ ys) ≡ every p xs && every p ys
   every-cat p [] ys = refl

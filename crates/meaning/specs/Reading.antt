@@ -1,24 +1,23 @@
 -- A program that says at each address what the layout of a forest says there carries the forest. The layout itself is one; rows in a store are another.
-use mathlib.Core.Path.{_≡_, refl}
-use mathlib.Core.Logic.{_⊎_, inl, inr, ⊎-elim}
-use mathlib.Core.Option.{none, some}
-use mathlib.Core.Bool.{Bool, true, false, false≢true}
-use lib.Dec.{ltb}
-use lib.ListN.{length}
-use borrow.Author.Tests.{ltb-true, ltb-false}
-use native.Mathlib.Omega.{arith}
-use Prim.Native.Nat.{_+_, _≤_, ℕ, suc, _<_}
-use Rattle.meaning.specs.Lists.{_∈_, here, there, every, Distinct, Pairs, no-pair, pair, full}
+use mathlib.Core.Path.{_≡_, refl, sym, ap₂, _∙_}
+use mathlib.Core.Logic.{⊎-elim}
+use mathlib.Core.Option.{some}
+use mathlib.Core.List.{List, [], _∷_, _++_}
+use mathlib.Core.Bool.{Bool, true, false, _&&_, _||_, false≢true}
+use Prim.Native.Nat.{ℕ, suc, zero}
+use Rattle.meaning.specs.Lists as lists
+use Rattle.meaning.specs.Lists.{_∈_, here, there, every, full, Pairs, no-pair, pair}
+use Rattle.meaning.specs.ListLaws.{∈-split}
 use Rattle.meaning.specs.Document.{Link, child, descendant}
-use Rattle.meaning.specs.Trees.{Forest, end, tree, Node, nodes, hung, width, size, some-node}
-use Rattle.meaning.specs.Layout.{Instruction, layout, block, below, begins, ends, ranges, fetch, Stands, stands-split, stands-self, length-block, length-below, length-three, Laid, length-layout, layout-laid}
-use Rattle.meaning.specs.Match.{Way, at-root, by, TreeShaped}
+use Rattle.meaning.specs.Trees.{Forest, end, tree, Node, nodes, hung, width, some-node}
+use Rattle.meaning.specs.Layout.{Instruction, layout, block, below, begins, ends, fetch, Laid, layout-laid}
+use Rattle.meaning.specs.Match.{Way, TreeShaped}
 use Rattle.meaning.specs.Elements.{Tag}
 use Rattle.meaning.specs.Tests.{Tests, of-type-tested}
 use Rattle.meaning.specs.Calls.{Program}
 use Rattle.meaning.specs.Carries.{Carries}
-use Rattle.meaning.specs.Owners.{own, Good, owners, layout-owned, owned-mem, fetch-below}
-use Rattle.meaning.specs.Spans.{span, distinct-span, span-mem}
+use Rattle.meaning.specs.Spans.{span}
+use Rattle.meaning.specs.Shape.{way-whole, laid-shaped}
 
 pub record Reads {A : Type 0} (Q : Tests A) (f : Forest (Q .D)) (P : Program A) : Type 0 where
   pub roots : P .roots ≡ span 0 (width f)
@@ -42,76 +41,9 @@ module _ {D : Type 0} (f : Forest D) where
   laid-pairs end a h = no-pair
   laid-pairs (tree d k g) a (i, e, s, ks, r) = pair (record { instruction = i; there-is = e; same = s; below = ks }) (laid-pairs g (suc a) r)
 
-before-or-not : (x m : ℕ) → (x < m) ⊎ (m ≤ x)
-before-or-not x m = go (ltb x m) refl
-  where
-    go : (b : Bool) → ltb x m ≡ b → (x < m) ⊎ (m ≤ x)
-    go true e = inl (ltb-true x m e)
-    go false e = inr (ltb-false x m e)
-
 module _ {A : Type 0} (Q : Tests A) (f : Forest (Q .D)) (P : Program A) (reads : Reads Q f P) where
-  -- ---- Each address hangs from one address by one link.
-  abbrev Whole : ℕ → Type 0
-  Whole a = Good (layout 0 f) (owners 0 none f) a
-
-  root-owned : (a : ℕ) → a ∈ P .roots → (fetch (owners 0 none f) a ≡ some none) × Whole a
-  root-owned a h = owned-mem (layout 0 f) (owners 0 none f) f 0 none (layout-owned f) a (rw (reads .roots) at h)
-
-  hung-owned : (m : ℕ) → Whole m → (l : Link) (n : ℕ) → n ∈ P .hung l m → (fetch (owners 0 none f) n ≡ some (some (own m l))) × Whole n
-  hung-owned m g l n h = owned-mem (layout 0 f) (owners 0 none f) (g .below l) (g .instruction .range l .first) (some (own m l)) (g .mine l .1) n (rw (reads .hung m (g .instruction) (g .there-is) l, g .mine l .0) at h)
-
-  way-whole : (a : ℕ) → Way (P .roots) (P .hung) a → Whole a
-  way-whole a (at-root h) = root-owned a h .1
-  way-whole a (by {m = m} way l h) = hung-owned m (way-whole m way) l a h .1
-
-  root-and-owned : (n m : ℕ) (l : Link) → fetch (owners 0 none f) n ≡ some none → fetch (owners 0 none f) n ≡ some (some (own m l)) → ⊥
-  root-and-owned n m l e e′ = let q : false ≡ true = cc in false≢true q
-
-  one-owner : (n m k : ℕ) (l j : Link) → fetch (owners 0 none f) n ≡ some (some (own m l)) → fetch (owners 0 none f) n ≡ some (some (own k j)) → (l ≡ j) × (m ≡ k)
-  one-owner n m k l j e e′ = (cc, cc)
-
-  hung-distinct : (m : ℕ) → Whole m → (l : Link) → Distinct (P .hung l m)
-  hung-distinct m g l = rw (reads .hung m (g .instruction) (g .there-is) l) (distinct-span (g .instruction .range l .first) (g .instruction .range l .count))
-
-  -- Addresses form trees.
   pub reads-shaped : TreeShaped (P .roots) (P .hung)
-  reads-shaped = record {
-    roots-once = rw (reads .roots) (distinct-span 0 (width f));
-    hung-once = λ {m} way l. hung-distinct m (way-whole m way) l;
-    no-root = λ {m} {n} way l h k. root-and-owned n m l (root-owned n k .0) (hung-owned m (way-whole m way) l n h .0);
-    one-parent = λ {m} {k} {n} v w l j h h′. one-owner n m k l j (hung-owned m (way-whole m v) l n h .0) (hung-owned k (way-whole k w) j n h′ .0);
-  }
-
-  -- They are below the number of nodes.
-  pub way-below : (a : ℕ) → Way (P .roots) (P .hung) a → a < size f
-  way-below a way = let g = way-whole a way in let h = fetch-below (layout 0 f) a (g .instruction) (g .there-is) in rw length-layout at h
-
-  -- And to each address below that a way leads.
-  ways-step : (b : ℕ) (g : Forest (Q .D)) → ((a m : ℕ) → Stands (layout 0 f) a (block m g) → Stands (layout 0 f) m (below m g) → ((x : ℕ) → x ∈ span a (width g) → Way (P .roots) (P .hung) x) → (x : ℕ) → m ≤ x → x < m + length (below m g) → Way (P .roots) (P .hung) x)
-      → Stands (layout 0 f) b (layout b g) → ((x : ℕ) → x ∈ span b (width g) → Way (P .roots) (P .hung) x) → (x : ℕ) → b ≤ x → x < b + size g → Way (P .roots) (P .hung) x
-  ways-step b g ih st ws x lo hi =
-      let (u, v) = stands-split (layout 0 f) b (block (b + width g) g) (below (b + width g) g) st in
-      let l = length-below (b + width g) g in
-      ⊎-elim (λ h. ws x (span-mem b (width g) x lo h)) (λ h. ih b (b + width g) u (rw length-block at v) ws x h (omega arith)) (before-or-not x (b + width g))
-
-  ways-out : (g : Forest (Q .D)) (a m : ℕ) → Stands (layout 0 f) a (block m g) → Stands (layout 0 f) m (below m g) → ((x : ℕ) → x ∈ span a (width g) → Way (P .roots) (P .hung) x) → (x : ℕ) → m ≤ x → x < m + length (below m g) → Way (P .roots) (P .hung) x
-  unfolding Stands below
-  ways-out end a m st bl ws x lo hi = absurd (let z : ⊥ = omega arith in z)
-  ways-out (tree d k g) a m st bl ws x lo hi =
-      let (h₁, r₁) = stands-split (layout 0 f) m (layout (begins m k child) (k child)) _ bl in
-      let (h₂, r₂) = stands-split (layout 0 f) _ (layout (begins m k descendant) (k descendant)) _ (rw length-layout at r₁) in
-      let hangs : (l : Link) (y : ℕ) → y ∈ span (begins m k l) (width (k l)) → Way (P .roots) (P .hung) y = λ l y h. by {m = a} {n = y} (ws a (here refl)) l (rw (reads .hung a (record { says = d; range = ranges m k }) (st .0) l) h) in
-      let e₁ = length-layout (begins m k child) (k child) in
-      let e₂ = length-layout (begins m k descendant) (k descendant) in
-      let e = length-three (layout (begins m k child) (k child)) (layout (begins m k descendant) (k descendant)) (below (ends m k) g) in
-      ⊎-elim (λ q. ways-step (begins m k child) (k child) (ways-out (k child)) h₁ (hangs child) x lo q)
-      (λ q. ⊎-elim (λ r. ways-step (begins m k descendant) (k descendant) (ways-out (k descendant)) h₂ (hangs descendant) x q r)
-      (λ r. ways-out g (suc a) (ends m k) (st .1) (rw length-layout at r₂) (λ y h. ws y (there h)) x r (omega arith))
-      (before-or-not x (ends m k)))
-      (before-or-not x (m + size (k child)))
-
-  pub every-way : (a : ℕ) → a < size f → Way (P .roots) (P .hung) a
-  every-way a h = ways-step 0 f (ways-out f) (stands-self (layout 0 f)) (λ x m. at-root (rw (reads .roots) m)) a (omega arith) (omega arith)
+  reads-shaped = laid-shaped f (P .roots) (P .hung) (reads .roots) (reads .hung)
 
   pub reads-carries : Carries Q f P
   reads-carries = record {
@@ -125,3 +57,50 @@ module _ {A : Type 0} (Q : Tests A) (f : Forest (Q .D)) (P : Program A) (reads :
     ids = λ a n h. rw (← h .same) (reads .ids a (h .instruction) (h .there-is));
     types = reads .types;
   }
+
+-- ---- What a maker of such a program needs: where no node of the forest has an nth-of-type test, no test looks at the position among those of the name.
+fetch-mem : {X : Type 0} (xs : List X) (a : ℕ) (x : X) → fetch xs a ≡ some x → x ∈ xs
+fetch-mem [] a x e = let q : false ≡ true = cc in absurd (false≢true q)
+fetch-mem (y ∷ ys) zero x e = let q : x ≡ y = cc in here q
+fetch-mem (y ∷ ys) (suc a) x e = there (fetch-mem ys a x e)
+
+neither : (a b : Bool) → a || b ≡ false → (a ≡ false) × (b ≡ false)
+neither true b e = absurd (false≢true (sym e))
+neither false b e = (refl, e)
+
+-- What no node of a forest says, no instruction of its layout says.
+module _ {D : Type 0} (p : D → Bool) where
+  block-says : (m : ℕ) (f : Forest D) (i : Instruction D) → some-node p f ≡ false → i ∈ block m f → p (i .says) ≡ false
+  block-says m (tree d k f) i e (here q) = rw q (neither (p d) _ e .0)
+  block-says m (tree d k f) i e (there h) = block-says (ends m k) f i (neither (some-node p (k descendant)) _ (neither (some-node p (k child)) _ (neither (p d) _ e .1) .1) .1) h
+
+  layout-step : (m : ℕ) (f : Forest D) (i : Instruction D) → some-node p f ≡ false → (i ∈ below m f → p (i .says) ≡ false) → i ∈ (block m f ++ below m f) → p (i .says) ≡ false
+  layout-step m f i e ih h = ⊎-elim (block-says m f i e) ih (∈-split (block m f) h)
+
+  below-says : (m : ℕ) (f : Forest D) (i : Instruction D) → some-node p f ≡ false → i ∈ below m f → p (i .says) ≡ false
+  unfolding below
+  below-says m (tree d k f) i e h =
+      let (_, e₁) = neither (p d) _ e in
+      let (e₂, e₃) = neither (some-node p (k child)) _ e₁ in
+      let (e₄, e₅) = neither (some-node p (k descendant)) _ e₃ in
+      ⊎-elim (layout-step _ (k child) i e₂ (below-says _ (k child) i e₂))
+      (λ r. ⊎-elim (layout-step _ (k descendant) i e₄ (below-says _ (k descendant) i e₄)) (below-says (ends m k) f i e₅) (∈-split (layout (begins m k descendant) (k descendant)) r))
+      (∈-split (layout (begins m k child) (k child)) h)
+
+  layout-says : (f : Forest D) → some-node p f ≡ false → (a : ℕ) (i : Instruction D) → fetch (layout 0 f) a ≡ some i → p (i .says) ≡ false
+  layout-says f e a i q = layout-step _ f i e (below-says _ f i e) (fetch-mem (layout 0 f) a i q)
+
+module _ {A : Type 0} (Q : Tests A) (f : Forest (Q .D)) (roots : List ℕ) (hung : Link → ℕ → List ℕ) (tag-tests : ℕ → ℕ → ℕ → Tag → Bool)
+    (roots-laid : roots ≡ span 0 (width f))
+    (hung-laid : (a : ℕ) (i : Instruction (Q .D)) → fetch (layout 0 f) a ≡ some i → (l : Link) → hung l a ≡ span (i .range l .first) (i .range l .count))
+    (tests-laid : (a : ℕ) (i : Instruction (Q .D)) → fetch (layout 0 f) a ≡ some i → (j k : ℕ) (t : Tag) → tag-tests a j k t ≡ every (λ x. Q .tag-test x j k t) (Q .tag-tests (i .says))) where
+  untyped : (xs : List (Q .TagTest)) → lists.some (Q .of-type) xs ≡ false → (i j k : ℕ) (t : Tag) → every (λ x. Q .tag-test x i j t) xs ≡ every (λ x. Q .tag-test x i k t) xs
+  untyped [] e i j k t = refl
+  untyped (x ∷ xs) e i j k t = let (u, v) = neither (Q .of-type x) _ e in ap₂ (λ a b. a && b) (Q .not-of-type x u i j k t) (untyped xs v i j k t)
+
+  pub laid-uncounted : some-node (of-type-tested Q) f ≡ false → (n : ℕ) → Way roots hung n → (i j k : ℕ) (t : Tag) → tag-tests n i j t ≡ tag-tests n i k t
+  laid-uncounted e n way i j k t =
+      let g = way-whole f roots hung roots-laid hung-laid n way in
+      tests-laid n (g .instruction) (g .there-is) i j t
+      ∙ untyped (Q .tag-tests (g .instruction .says)) (layout-says (of-type-tested Q) f e n (g .instruction) (g .there-is)) i j k t
+      ∙ sym (tests-laid n (g .instruction) (g .there-is) i k t)

@@ -4,7 +4,12 @@ pub mod Nth
 pub mod Attributes
 pub mod Operators
 pub mod Tests
+pub mod Standard
 pub mod BytesLaws
 pub mod NthLaws
 pub mod SplitLaws
 pub mod OperatorLaws
+pub mod NameLaws
+pub mod AttributeLaws
+pub mod Exceptions
+pub mod Examples

@@ -1,61 +1,21 @@
--- What the computed operators mean, as Selectors (W3C, Level 4, section 6) puts it: there is a place, or a part.
+-- The computed operators are W3C's (`Standard`), with the exceptions E1 and E2 and no others: each law holds for every case rule, value and operand.
 use mathlib.Core.Path.{_≡_, refl, sym, ap, _∙_, subst}
 use mathlib.Core.Logic.{_↔_, _⊎_, inl, inr, ⊎-elim}
 use mathlib.Core.Bool.{Bool, true, false, not, cond, _&&_, _||_}
 use mathlib.Core.List.{List, [], _∷_, _++_, map, append-nil, List·Memᴰ, List·Memᴰ·head, List·Memᴰ·tail, List·Memᴰ·not-nil, List·Memᴰ·cases-cons}
 use Prim.Native.Nat.{ℕ, zero, suc, _+_, _-_, _<_, _≤_}
 use native.Mathlib.Omega.{arith}
-use borrow.Author.Tests.{eq-eqb, leb-true}
+use borrow.Author.Tests.{eq-eqb, ne-eqb, leb-true}
 use lib.Dec.{T, eqb, leb, eqb→eq, eqb-refl}
 use lib.ListN.{length, getD, take, drop, length-map, length-append, length-drop, take-append-drop, List·getD-map}
 use lib.Seq.{drop-cons, take-at, drop-at, getD-at}
 use Rattle.rules.specs.Bytes.{sameBytes, foldByte, fold, spaceByte}
-use Rattle.rules.specs.BytesLaws.{and-left, and-right, is-true, holds, same-law}
-use Rattle.rules.specs.Operators.{emptyBytes, beginsWith, prefixHolds, suffixHolds, dashHolds, containsBytes, substringHolds, parts, split, somePart, includesHolds}
-
--- ---- the meanings
-
--- o at the front of v
-unfoldable pub Begins : Bool → List ℕ → List ℕ → Type 0
-Begins f v o = (rest : List ℕ) × (fold f v ≡ fold f o ++ rest)
-
--- [att^=val], E1
-unfoldable pub Prefix : Bool → List ℕ → List ℕ → Type 0
-Prefix f v o = (v ≡ [] → ⊥) × Begins f v o
-
--- [att$=val], E1
-unfoldable pub Suffix : Bool → List ℕ → List ℕ → Type 0
-Suffix f v o = (v ≡ [] → ⊥) × ((front : List ℕ) × (fold f v ≡ front ++ fold f o))
-
--- [att|=val]
-unfoldable pub Dash : Bool → List ℕ → List ℕ → Type 0
-Dash f v o = (fold f v ≡ fold f o) ⊎ ((rest : List ℕ) × (fold f v ≡ fold f o ++ (45 ∷ rest)))
-
--- [att*=val]: some place of v has o
-unfoldable pub Substring : Bool → List ℕ → List ℕ → Type 0
-Substring f v o = (o ≡ [] → ⊥) × ((front : List ℕ) × ((rest : List ℕ) × (fold f v ≡ front ++ (fold f o ++ rest))))
-
--- [att~=val]: a member of the split is o
-unfoldable pub Includes : Bool → List ℕ → List ℕ → Type 0
-Includes f v o = (p : List ℕ) × (List·Memᴰ p (split v) × (fold f p ≡ fold f o))
+use Rattle.rules.specs.BytesLaws.{and-both, and-left, and-right, or-cases, or-left, or-right, holds, same-law}
+use Rattle.rules.specs.Operators.{emptyBytes, equalHolds, beginsWith, prefixHolds, suffixHolds, dashHolds, containsBytes, substringHolds, parts, split, somePart, includesHolds}
+use Rattle.rules.specs.SplitLaws.{part-law}
+use Rattle.rules.specs.Standard.{Equal, Prefix, Suffix, Substring, Dash, Clear, Part, Includes}
 
 -- ---- lists
-
-and-both : (a b : Bool) → T a → T b → T (a && b)
-and-both true b s t = t
-and-both false b s t = s
-
-or-cases : (a b : Bool) → T (a || b) → T a ⊎ T b
-or-cases true b t = inl tt
-or-cases false b t = inr t
-
-or-left : (a b : Bool) → T a → T (a || b)
-or-left true b t = tt
-or-left false b t = absurd t
-
-or-right : (a b : Bool) → T b → T (a || b)
-or-right true b t = tt
-or-right false b t = t
 
 map-append : (g : ℕ → ℕ) (s t : List ℕ) → map g (s ++ t) ≡ map g s ++ map g t
 map-append g [] t = refl
@@ -81,9 +41,21 @@ unfolding emptyBytes
 some-byte [] n = n refl
 some-byte (x ∷ xs) n = tt
 
+-- what holds of an operand that is empty, or not
+by-operand : (o : List ℕ) {X Y : Type 0} → X → Y → ((o ≡ [] → ⊥) × X) ⊎ ((o ≡ []) × Y)
+by-operand [] x y = inr (refl, y)
+by-operand (b ∷ o) x y = inl ((λ e. let z = ap length e in omega arith), x)
+
+-- a value that holds an operand with a byte has one
+longer : (f : Bool) (v o front rest : List ℕ) → fold f v ≡ front ++ (fold f o ++ rest) → (o ≡ [] → ⊥) → v ≡ [] → ⊥
+longer f v [] front rest e n z = n refl
+longer f v (b ∷ o) front rest e n z =
+    let h = ap length (sym e ∙ ap (fold f) z) in
+    omega (arith, h, length-append front (fold f (b ∷ o) ++ rest), length-append (fold f (b ∷ o)) rest)
+
 module _ (f : Bool) (v o : List ℕ) where
-  begins-found : T (beginsWith f v o) → Begins f v o
-  unfolding beginsWith Begins
+  begins-found : T (beginsWith f v o) → (rest : List ℕ) × (fold f v ≡ fold f o ++ rest)
+  unfolding beginsWith
   begins-found t = (
     fold f (drop (length o) v),
     ap (fold f) (sym (take-append-drop (length o) v))
@@ -91,22 +63,22 @@ module _ (f : Bool) (v o : List ℕ) where
         ∙ ap (λ (l : List ℕ). l ++ fold f (drop (length o) v)) (same-law f f _ o .0 t),
   )
 
-  begins-holds : Begins f v o → T (beginsWith f v o)
-  unfolding beginsWith Begins
-  begins-holds p =
+  begins-holds : (rest : List ℕ) → fold f v ≡ fold f o ++ rest → T (beginsWith f v o)
+  unfolding beginsWith
+  begins-holds rest e =
       same-law f f _ o .1
       (map-take (foldByte f) (length o) v
-      ∙ ap (take (length o)) (p .1)
-      ∙ take-at (fold f o) (p .0) (length o) (length-map o (foldByte f)))
+      ∙ ap (take (length o)) e
+      ∙ take-at (fold f o) rest (length o) (length-map o (foldByte f)))
 
-  pub begins-law : T (beginsWith f v o) ↔ Begins f v o
-  begins-law = (begins-found, begins-holds)
-
-  pub prefix-law : T (prefixHolds f v o) ↔ Prefix f v o
+  -- E1: the empty operand, which W3C's prefix never matches, matches every value that is not empty.
+  pub prefix-law : T (prefixHolds f v o) ↔ (Prefix f v o ⊎ ((o ≡ []) × (v ≡ [] → ⊥)))
   unfolding prefixHolds Prefix
   prefix-law = (
-    (λ t. (not-empty v (and-left (not (emptyBytes v)) (beginsWith f v o) t), begins-found (and-right (not (emptyBytes v)) (beginsWith f v o) t))),
-    (λ p. and-both (not (emptyBytes v)) (beginsWith f v o) (some-byte v (p .0)) (begins-holds (p .1))),
+    (λ t. by-operand o (begins-found (and-right (not (emptyBytes v)) (beginsWith f v o) t)) (not-empty v (and-left (not (emptyBytes v)) (beginsWith f v o) t))),
+    ⊎-elim
+        (λ p. and-both (not (emptyBytes v)) (beginsWith f v o) (some-byte v (longer f v o [] (p .1 .0) (p .1 .1) (p .0))) (begins-holds (p .1 .0) (p .1 .1)))
+        (λ p. and-both (not (emptyBytes v)) (beginsWith f v o) (some-byte v (p .1)) (begins-holds (fold f v) (rw (p .0)))),
   )
 
   ends-found : T (sameBytes f f (drop (length v - length o) v) o) → (front : List ℕ) × (fold f v ≡ front ++ fold f o)
@@ -126,13 +98,21 @@ module _ (f : Bool) (v o : List ℕ) where
       ∙ ap (drop (length v - length o)) e
       ∙ drop-at front (fold f o) (length v - length o) k)
 
-  pub suffix-law : T (suffixHolds f v o) ↔ Suffix f v o
+  -- E1
+  pub suffix-law : T (suffixHolds f v o) ↔ (Suffix f v o ⊎ ((o ≡ []) × (v ≡ [] → ⊥)))
   unfolding suffixHolds Suffix
   suffix-law =
       let b = sameBytes f f (drop (length v - length o) v) o in (
-        (λ t. (not-empty v (and-left (not (emptyBytes v)) b t), ends-found (and-right (not (emptyBytes v)) b t))),
-        (λ p. and-both (not (emptyBytes v)) b (some-byte v (p .0)) (ends-holds (p .1 .0) (p .1 .1))),
+        (λ t. by-operand o (ends-found (and-right (not (emptyBytes v)) b t)) (not-empty v (and-left (not (emptyBytes v)) b t))),
+        ⊎-elim
+            (λ p. and-both (not (emptyBytes v)) b (some-byte v (longer f v o (p .1 .0) [] (p .1 .1 ∙ ap (λ (l : List ℕ). p .1 .0 ++ l) (sym (append-nil (fold f o)))) (p .0))) (ends-holds (p .1 .0) (p .1 .1)))
+            (λ p. and-both (not (emptyBytes v)) b (some-byte v (p .1)) (ends-holds (fold f v) (rw (p .0) (sym (append-nil (fold f v)))))),
       )
+
+-- [att=val] is W3C's.
+pub equal-law : (f : Bool) (v o : List ℕ) → T (equalHolds f v o) ↔ Equal f v o
+unfolding Equal
+equal-law f v o = same-law f f v o
 
 -- ---- dash
 
@@ -168,16 +148,13 @@ module _ (f : Bool) (v o : List ℕ) where
         ∙ rw (same-law f f (take (length o) v) o .0 t, drop-cons v (length o) 0 (in-range v (length o) e), e, fold-dash f),
   )
 
-  dash-begins : ((rest : List ℕ) × (fold f v ≡ fold f o ++ (45 ∷ rest))) → Begins f v o
-  unfolding Begins
-  dash-begins r = (45 ∷ r .0, r .1)
-
   dash-at : (rest : List ℕ) → fold f v ≡ fold f o ++ (45 ∷ rest) → getD v (length o) 0 ≡ 45
   dash-at rest e =
       only-dash f (getD v (length o) 0)
       (sym (List·getD-map (foldByte f) v (length o) 0)
       ∙ rw (e, fold-none f) (getD-at (fold f o) 45 rest 0 (length o) (length-map o (foldByte f))))
 
+  -- [att|=val] is W3C's.
   pub dash-law : T (dashHolds f v o) ↔ Dash f v o
   unfolding dashHolds Dash
   dash-law =
@@ -186,27 +163,28 @@ module _ (f : Bool) (v o : List ℕ) where
       let d = eqb (getD v (length o) 0) 45 in (
         (λ t. ⊎-elim (λ u. inl (same-law f f v o .0 u)) (λ u. inr (dash-found (and-left b d u) (eqb→eq _ _ (and-right b d u)))) (or-cases s (b && d) t)),
         (λ p. ⊎-elim (λ e. or-left s (b && d) (same-law f f v o .1 e))
-            (λ r. or-right s (b && d) (and-both b d (begins-law f v o .1 (dash-begins r)) (holds (eq-eqb _ _ (dash-at (r .0) (r .1)))))) p),
+            (λ r. or-right s (b && d) (and-both b d (begins-holds f v o (45 ∷ r .0) (r .1)) (holds (eq-eqb _ _ (dash-at (r .0) (r .1)))))) p),
       )
 
 -- ---- substring
 
 module _ (f : Bool) (o : List ℕ) where
   contains-found : (v : List ℕ) → T (containsBytes f v o) → (front : List ℕ) × ((rest : List ℕ) × (fold f v ≡ front ++ (fold f o ++ rest)))
-  unfolding containsBytes Begins
-  contains-found [] t = ([], begins-law f [] o .0 t)
+  unfolding containsBytes
+  contains-found [] t = ([], begins-found f [] o t)
   contains-found (x ∷ xs) t =
-      ⊎-elim (λ u. ([], begins-law f (x ∷ xs) o .0 u))
+      ⊎-elim (λ u. ([], begins-found f (x ∷ xs) o u))
       (λ u. let r = contains-found xs u in (foldByte f x ∷ r .0, (r .1 .0, ap (λ (l : List ℕ). foldByte f x ∷ l) (r .1 .1))))
       (or-cases (beginsWith f (x ∷ xs) o) (containsBytes f xs o) t)
 
   contains-holds : (v front rest : List ℕ) → fold f v ≡ front ++ (fold f o ++ rest) → T (containsBytes f v o)
-  unfolding containsBytes Begins
-  contains-holds [] [] rest e = begins-law f [] o .1 (rest, e)
+  unfolding containsBytes
+  contains-holds [] [] rest e = begins-holds f [] o rest e
   contains-holds [] (y ∷ ys) rest e = let z = ap length e in absurd (omega arith)
-  contains-holds (x ∷ xs) [] rest e = or-left (beginsWith f (x ∷ xs) o) (containsBytes f xs o) (begins-law f (x ∷ xs) o .1 (rest, e))
+  contains-holds (x ∷ xs) [] rest e = or-left (beginsWith f (x ∷ xs) o) (containsBytes f xs o) (begins-holds f (x ∷ xs) o rest e)
   contains-holds (x ∷ xs) (y ∷ ys) rest e = or-right (beginsWith f (x ∷ xs) o) (containsBytes f xs o) (contains-holds xs ys rest (cc))
 
+-- [att*=val] is W3C's.
 pub substring-law : (f : Bool) (v o : List ℕ) → T (substringHolds f v o) ↔ Substring f v o
 unfolding substringHolds Substring
 substring-law f v o = (
@@ -232,6 +210,43 @@ some-holds f o (q ∷ ps) p m e =
     (λ n. or-right (sameBytes f f q o) (somePart f o ps) (some-holds f o ps p n e))
     (List·Memᴰ·cases-cons m)
 
-pub includes-law : (f : Bool) (v o : List ℕ) → T (includesHolds f v o) ↔ Includes f v o
+-- a byte is white space under every case rule, or under none
+no-space : (b : ℕ) → 33 ≤ b → spaceByte b ≡ false
+no-space b h = rw (ne-eqb b 32 (λ e. omega arith), ne-eqb b 10 (λ e. omega arith), ne-eqb b 13 (λ e. omega arith), ne-eqb b 9 (λ e. omega arith), ne-eqb b 12 (λ e. omega arith))
+
+space-fold : (f : Bool) (b : ℕ) → spaceByte (foldByte f b) ≡ spaceByte b
+space-fold false b = refl
+space-fold true b = go (leb 65 b) refl (leb b 90)
+  where
+    go : (x : Bool) → leb 65 b ≡ x → (y : Bool) → spaceByte (cond x (cond y (b + 32) b) b) ≡ spaceByte b
+    go true e true = let h = leb-true 65 b e in no-space (b + 32) (omega arith) ∙ sym (no-space b (omega arith))
+    go true e false = refl
+    go false e y = refl
+
+clear-same : (f : Bool) (p o : List ℕ) → fold f p ≡ fold f o → Clear p → Clear o
+unfolding Clear
+clear-same f p [] e c = tt
+clear-same f [] (y ∷ o) e c = let z = ap length e in absurd (omega arith)
+clear-same f (x ∷ p) (y ∷ o) e c =
+    let h : foldByte f x ≡ foldByte f y = cc in
+    let k : fold f p ≡ fold f o = cc in
+    (sym (space-fold f y) ∙ ap spaceByte (sym h) ∙ space-fold f x ∙ c .0, clear-same f p o k (c .1))
+
+nothing-folds : (f : Bool) (p : List ℕ) → fold f p ≡ [] → p ≡ []
+nothing-folds f [] e = refl
+nothing-folds f (x ∷ p) e = let z = ap length e in absurd (omega arith)
+
+-- E2: the empty operand, which W3C's includes never matches, matches where some part is empty.
+pub includes-law : (f : Bool) (v o : List ℕ) → T (includesHolds f v o) ↔ (Includes f v o ⊎ ((o ≡ []) × Part v []))
 unfolding includesHolds Includes
-includes-law f v o = (some-found f o (split v), λ r. some-holds f o (split v) (r .0) (r .1 .0) (r .1 .1))
+includes-law f v o = (λ t. to o (some-found f o (split v) t), from)
+  where
+    to : (o : List ℕ) → (p : List ℕ) × (List·Memᴰ p (split v) × (fold f p ≡ fold f o)) → ((o ≡ [] → ⊥) × (Clear o × ((p : List ℕ) × (Part v p × (fold f p ≡ fold f o))))) ⊎ ((o ≡ []) × Part v [])
+    to [] (p, (m, e)) = inr (refl, subst (λ (q : List ℕ). Part v q) (nothing-folds f p e) (part-law v p .0 m))
+    to (b ∷ o) (p, (m, e)) =
+        let q = part-law v p .0 m in
+        inl ((λ z. let k = ap length z in omega arith), (clear-same f p (b ∷ o) e (q .clear), (p, (q, e))))
+
+    from : ((o ≡ [] → ⊥) × (Clear o × ((p : List ℕ) × (Part v p × (fold f p ≡ fold f o))))) ⊎ ((o ≡ []) × Part v []) → T (somePart f o (split v))
+    from (inl (n, (c, (p, (q, e))))) = some-holds f o (split v) p (part-law v p .1 q) e
+    from (inr (z, q)) = some-holds f o (split v) [] (part-law v [] .1 q) (ap (fold f) (sym z))

@@ -1,5 +1,4 @@
--- What a part of the split is: bytes with no white space among them, with the value's start or white space before them, and its end or white space after them.
---
+-- The parts of the split are the parts between white space (`Standard.Part`).
 use mathlib.Core.Path.{_≡_, refl, sym, ap, _∙_, subst}
 use mathlib.Core.Logic.{_↔_, _⊎_, inl, inr, ⊎-elim}
 use mathlib.Core.Bool.{Bool, true, false, cond, _&&_}
@@ -10,30 +9,7 @@ use lib.Dec.{T}
 use lib.ListN.{length}
 use Rattle.rules.specs.Bytes.{spaceByte}
 use Rattle.rules.specs.Operators.{parts, split}
-
--- no byte of p is white space
-unfoldable pub Clear : List ℕ → Type 0
-Clear [] = Unit {0}
-Clear (x ∷ xs) = (spaceByte x ≡ false) × Clear xs
-
--- nothing, or a white space at the end of what goes before
-unfoldable pub Before : List ℕ → Type 0
-Before [] = Unit {0}
-Before (x ∷ []) = spaceByte x ≡ true
-Before (x ∷ (y ∷ ys)) = Before (y ∷ ys)
-
--- nothing, or a white space at the start of what comes after
-unfoldable pub After : List ℕ → Type 0
-After [] = Unit {0}
-After (x ∷ xs) = spaceByte x ≡ true
-
-pub record Part (v p : List ℕ) : Type 0 where
-  pub front : List ℕ
-  pub back : List ℕ
-  pub whole : v ≡ front ++ (p ++ back)
-  pub clear : Clear p
-  pub before : Before front
-  pub after : After back
+use Rattle.rules.specs.Standard.{Clear, Before, After, Part}
 
 -- p is the part so far, with bytes of v
 record First (so v p : List ℕ) : Type 0 where
