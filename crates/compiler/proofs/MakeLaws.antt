@@ -1,6 +1,6 @@
 -- Compiling a whole sheet: what a good sheet gives the recursion, and each way out.
-use Prim.Native.Nat.{ℕ, zero, suc, _+_, _/_, _≤_, _<_}
-use mathlib.Core.Path.{_≡_, refl, sym, ap, _∙_}
+use Prim.Native.Nat.{ℕ, suc, _+_, _/_, _≤_, _<_}
+use mathlib.Core.Path.{_≡_, refl, ap, _∙_}
 use mathlib.Core.Bool.{Bool, true, false, _||_}
 use mathlib.Core.List.{List}
 use native.Mathlib.Nat.{zero-add, add-zero}
@@ -9,11 +9,12 @@ use lib.ListN.{length}
 use borrow.Author.Tests.{lt-ltb, le-ltb}
 use Rattle.cells.specs.Numbers.{be16}
 use Rattle.meaning.specs.Document.{child, descendant}
-use Rattle.meaning.specs.Trees.{Forest, width, size}
-use Rattle.sheet.specs.Records.{NodeRecord, recordAt, endOf}
+use Rattle.meaning.specs.Trees.{Forest, size}
+use Rattle.sheet.specs.Records.{NodeRecord, recordAt}
 use Rattle.sheet.specs.Parser.{Parsed, parseSheet, checkedOf}
-use Rattle.sheet.specs.Spelling.{Spells, Sheet, Taken, good-sheet, spelt-width}
-use Rattle.sheet.specs.Spelling as spelling
+use Rattle.sheet.specs.Spelling.{Spells, Sheet}
+use Rattle.sheet.specs.SpellingLaws.{good-sheet, spelt-width}
+use Rattle.sheet.specs.SpellingLaws as spelling
 use Rattle.sheet.specs.declared.Checked.{Checked}
 use Rattle.compiler.specs.Program.{anyOfType, usesNthOfType}
 use Rattle.compiler.specs.Placing.{layTrees, Room, RecordsInside, recordsUse}
@@ -43,7 +44,7 @@ module _ {s : List ℕ} where
       rw e (i, x)
 
   records-use : {depth n at m : ℕ} {f : Forest NodeRecord} → Spells s depth n at f m → (j : ℕ) → recordsUse s (size f + j) at ≡ (usesNthOfType f || recordsUse s j m)
-  unfolding recordsUse size usesNthOfType
+  unfolding recordsUse size usesNthOfType anyOfType
   records-use (Spells.none a b) j = rw (zero-add j, ← b) refl
   records-use {at = at} {m = m} (Spells.more {node = node} {below = k} {siblings = g} p q hn hd en i tc td tn) j =
       let e : suc (size (k child) + size (k descendant) + size g) + j ≡ suc (size (k child) + (size (k descendant) + (size g + j))) = omega arith in

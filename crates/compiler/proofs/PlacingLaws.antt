@@ -1,19 +1,20 @@
 -- The recursion leaves the layout of the forest; and the room that each call has.
 use Prim.Native.Nat.{ℕ, zero, suc, _+_, _-_, _*_, _≤_, _<_}
 use mathlib.Core.Path.{_≡_, refl, sym, ap, _∙_}
-use mathlib.Core.List.{List, [], _∷_, _++_}
+use mathlib.Core.List.{List, _++_}
 use native.Mathlib.Numerals.{sub-one}
 use native.Mathlib.Omega.{arith}
 use lib.ListN.{length}
 use lib.Seq.{sets}
 use Rattle.meaning.specs.Document.{Link, child, descendant}
 use Rattle.meaning.specs.Trees.{Forest, end, tree, width, size}
-use Rattle.meaning.specs.Layout.{Instruction, begins, ends, ranges, block, below, layout, length-block, length-layout}
+use Rattle.meaning.specs.Layout.{Instruction, ends, ranges, block, below, layout, length-block, length-layout}
 use Rattle.sheet.specs.Records.{NodeRecord, recordAt, endOf, childCount, descendantCount}
-use Rattle.sheet.specs.Spelling.{Inside, Spells, spelt-width}
+use Rattle.sheet.specs.Spelling.{Spells}
+use Rattle.sheet.specs.SpellingLaws.{spelt-width}
 use Rattle.compiler.specs.Program.{row, rows}
 use Rattle.compiler.specs.StoreLaws.{length-row, length-rows}
-use Rattle.compiler.specs.Placing.{instructionAt, Laid, layNode, layMany, layAt, layTrees, Room}
+use Rattle.compiler.specs.Placing.{instructionAt, Laid, layNode, layMany, layAt, layTrees}
 use Rattle.compiler.proofs.Sets.{sets-append, gather}
 use Rattle.compiler.proofs.RowLaws.{rows-append, row-same}
 

@@ -1,17 +1,17 @@
 -- The room that each call of the recursion has.
-use Prim.Native.Nat.{ℕ, suc, _+_, _-_, _*_, _≤_, _<_}
-use mathlib.Core.Path.{_≡_, refl, sym, ap, _∙_}
+use Prim.Native.Nat.{ℕ, _+_, _-_, _*_, _≤_, _<_}
+use mathlib.Core.Path.{_≡_, refl, _∙_}
 use mathlib.Core.List.{List}
 use native.Mathlib.Omega.{arith}
-use lib.ListN.{length}
 use lib.Seq.{sets}
 use Rattle.meaning.specs.Document.{Link, child, descendant}
-use Rattle.meaning.specs.Trees.{Forest, end, tree, width, size}
+use Rattle.meaning.specs.Trees.{Forest, end, tree, size}
 use Rattle.sheet.specs.Records.{NodeRecord, endOf, childCount, descendantCount}
-use Rattle.sheet.specs.Spelling.{Inside, Spells, spelt-width}
+use Rattle.sheet.specs.Spelling.{Inside, Spells}
+use Rattle.sheet.specs.SpellingLaws.{spelt-width}
 use Rattle.compiler.specs.Program.{row}
-use Rattle.compiler.specs.Placing.{instructionAt, Laid, layAt, layTrees, Room}
-use Rattle.compiler.proofs.PlacingLaws.{lay-out, size-is, level, tree-ends, Out, Out1}
+use Rattle.compiler.specs.Placing.{instructionAt, layAt, layTrees, Room}
+use Rattle.compiler.proofs.PlacingLaws.{lay-out, size-is, level, tree-ends}
 
 -- one tree, taken apart
 pub record Opened (s : List ℕ) (depth at slot free : ℕ) : Type 0 where

@@ -1,16 +1,16 @@
 -- Rows: their lengths, what eight stores leave, and the row of a record that stands in the sheet.
-use Prim.Native.Nat.{ℕ, zero, suc, _+_, _*_, _≤_}
+use Prim.Native.Nat.{ℕ, zero, suc, _+_, _*_}
 use mathlib.Core.Path.{_≡_, refl, sym, ap, _∙_}
 use mathlib.Core.List.{List, [], _∷_, _++_, map, append-assoc}
 use native.Mathlib.Omega.{arith}
-use lib.ListN.{length, getD, set, length-append, length-map}
+use lib.ListN.{length, getD, set, length-map}
 use lib.Seq.{sets}
 use Rattle.cells.specs.Numbers.{be16}
 use Rattle.meaning.specs.Document.{Link, child, descendant}
 use Rattle.meaning.specs.Trees.{Forest, width, size}
 use Rattle.meaning.specs.Layout.{Instruction, ranges}
 use Rattle.rules.specs.Tests.{readTagTest, readAttributeTest}
-use Rattle.sheet.specs.Records.{NodeRecord, recordAt, endOf, countsAt, tagCount, attributeCount, childCount, descendantCount, testsAt, testsFrom, testsEnd}
+use Rattle.sheet.specs.Records.{NodeRecord, recordAt, endOf, tagCount, attributeCount, childCount, descendantCount, testsAt, testsFrom, testsEnd}
 use Rattle.compiler.specs.Program.{nodeKey, words, row, rows}
 use Rattle.compiler.specs.Placing.{instructionAt}
 

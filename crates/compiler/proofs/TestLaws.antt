@@ -1,18 +1,18 @@
 -- What the bytes of a test say of its key and of its kind; one turn of the loops over tests and over records.
 use Prim.Native.Nat.{ℕ, zero, suc, _+_, _-_, _≤_, _<_}
-use mathlib.Core.Path.{_≡_, refl, sym, ap, _∙_}
-use mathlib.Core.Bool.{Bool, true, false, cond, not, _||_}
+use mathlib.Core.Path.{_≡_, refl}
+use mathlib.Core.Bool.{Bool, true, false, cond, not}
 use mathlib.Core.List.{List, map}
 use native.Mathlib.Numerals.{sub-one}
 use native.Mathlib.Omega.{arith}
 use lib.Dec.{eqb}
 use lib.IntN.{ℤ}
 use lib.ListN.{length, getD}
-use borrow.Author.Tests.{eq-eqb, ne-eqb, eqb-true}
+use borrow.Author.Tests.{ne-eqb, eqb-true}
 use Rattle.cells.specs.Numbers.{part, be16, i32At}
 use Rattle.rules.specs.Names.{nameKey}
-use Rattle.rules.specs.Tests.{TagTest, any, unmatchable, localName, nthChild, nthOfType, tagKind, readTagTest}
-use Rattle.sheet.specs.Records.{recordAt, endOf, tagCount, testsAt, testBytes, testsFrom}
+use Rattle.rules.specs.Tests.{any, unmatchable, localName, nthChild, nthOfType, tagKind, readTagTest}
+use Rattle.sheet.specs.Records.{recordAt, endOf, testsFrom}
 use Rattle.sheet.specs.Meaning.{ofType}
 use Rattle.sheet.specs.Spelling.{TestsInside, Inside}
 use Rattle.compiler.specs.Program.{tagKey, testKey, nodeKey, anyOfType}

@@ -3,7 +3,7 @@ use mathlib.Core.Bool.{Bool, false, _||_}
 use mathlib.Core.List.{List}
 use Prim.Native.Nat.{ℕ, zero, suc, _+_, _*_, _≤_}
 use lib.Seq.{sets}
-use Rattle.meaning.specs.Document.{Link, child, descendant, by-link}
+use Rattle.meaning.specs.Document.{child, descendant, by-link}
 use Rattle.meaning.specs.Trees.{Forest, size}
 use Rattle.meaning.specs.Layout.{Range, Instruction}
 use Rattle.sheet.specs.Records.{NodeRecord, recordAt, endOf, childCount, descendantCount}

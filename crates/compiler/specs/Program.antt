@@ -1,15 +1,17 @@
 -- Instruction rows (program.rs): what stands in the store of a compiled sheet.
-use mathlib.Core.Bool.{Bool, false, cond, _||_}
+use mathlib.Core.Bool.{Bool, cond}
 use mathlib.Core.List.{List, [], _∷_, _++_}
 use Prim.Native.Nat.{ℕ, _+_, _*_}
 use lib.ListN.{length}
 use Rattle.meaning.specs.Document.{child, descendant}
-use Rattle.meaning.specs.Trees.{Forest, end, tree}
+use Rattle.meaning.specs.Lists.{some}
+use Rattle.meaning.specs.Tests.{of-type-tested}
+use Rattle.meaning.specs.Trees.{Forest, some-node}
 use Rattle.meaning.specs.Layout.{Instruction}
 use Rattle.rules.specs.Names.{nameKey}
 use Rattle.rules.specs.Tests.{Negatable, TagTest, any, unmatchable, localName, nthChild, nthOfType}
 use Rattle.sheet.specs.Records.{NodeRecord}
-use Rattle.sheet.specs.Meaning.{ofType}
+use Rattle.sheet.specs.Meaning.{sheetTests}
 
 -- The key of a local name; 0, which is no name's key, for any other test.
 unfoldable pub tagKey : TagTest → ℕ
@@ -48,11 +50,8 @@ rows (i ∷ instructions) = row i ++ rows instructions
 
 -- Some test is of kind 5, also negated.
 unfoldable pub anyOfType : List (Negatable TagTest) → Bool
-anyOfType [] = false
-anyOfType (t ∷ tests) = ofType (t .test) || anyOfType tests
+anyOfType tests = some (sheetTests .of-type) tests
 
 -- Nth-of-type is in use when any node has such a test, also where it can never be live.
 unfoldable pub usesNthOfType : Forest NodeRecord → Bool
-usesNthOfType end = false
-usesNthOfType (tree node below siblings) =
-    anyOfType (node .tagTests) || (usesNthOfType (below child) || (usesNthOfType (below descendant) || usesNthOfType siblings))
+usesNthOfType forest = some-node (of-type-tested sheetTests) forest

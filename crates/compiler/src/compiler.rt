@@ -13,8 +13,8 @@ ghost use Rattle.sheet.specs.Parser.{parseSheet};
 ghost use Rattle.compiler.specs.Placing.{layAt, layTrees, Room, RecordsInside, recordsUse};
 ghost use Rattle.compiler.specs.Compiler.{compiledOf, storeOf};
 
-/// Where the next record is, and the first address that is free.
-pub struct Placed {
+// Where the next record is, and the first address that is free.
+struct Placed {
     pub next: usize,
     pub free: usize,
 }

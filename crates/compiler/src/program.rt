@@ -10,7 +10,7 @@ ghost use Prim.Native.Nat.{_*_, _≤_};
 ghost use lib.ListN.{length};
 ghost use lib.Seq.{sets};
 ghost use Rattle.rules.specs.Tests.{readTagTest};
-ghost use Rattle.sheet.specs.Records.{recordAt, endOf, testsFrom, childCount, descendantCount};
+ghost use Rattle.sheet.specs.Records.{endOf, testsFrom, childCount, descendantCount};
 ghost use Rattle.sheet.specs.Meaning.{ofType};
 ghost use Rattle.sheet.specs.Spelling.{TestsInside, Inside};
 ghost use Rattle.compiler.specs.Program.{testKey, nodeKey, words, row, anyOfType};
@@ -48,7 +48,7 @@ fn is_of_type(test: &[u8]) -> bool
 }
 
 // Is a test of kind 5 among the `count` tests at `at`, which end before `end`?
-pub fn any_of_type(s: &[u8], end: usize, count: usize, at: usize) -> bool
+pub(crate) fn any_of_type(s: &[u8], end: usize, count: usize, at: usize) -> bool
     requires { ⌜ (end ≤ 65536) × TestsInside (now s) end count at ⌝ }
     ensures { λ r. ⌜ r ≡ anyOfType (map readTagTest (testsFrom (now (s .entry)) count at)) ⌝ }
 {
@@ -66,13 +66,13 @@ pub fn any_of_type(s: &[u8], end: usize, count: usize, at: usize) -> bool
 }
 
 /// Where a record ends, and how many child trees and descendant trees follow it.
-pub struct Links {
+pub(crate) struct Links {
     pub next: usize,
     pub children: usize,
     pub descendants: usize,
 }
 
-pub fn links_at(s: &[u8], at: usize) -> Links
+pub(crate) fn links_at(s: &[u8], at: usize) -> Links
     requires { ⌜ (length (now s) ≤ 65536) × Inside (now s) at ⌝ }
     ensures { λ r. ⌜ r .next ≡ endOf (now (s .entry)) at ⌝ }
     ensures { λ r. ⌜ r .children ≡ childCount (now (s .entry)) at ⌝ }
@@ -87,7 +87,7 @@ pub fn links_at(s: &[u8], at: usize) -> Links
 }
 
 /// Neighbouring addresses; none if the count is 0.
-pub struct AddressRange {
+pub(crate) struct AddressRange {
     pub first: u32,
     pub count: u32,
 }
@@ -118,7 +118,7 @@ fn put_row(
 }
 
 /// Writes the instruction of the record at `at`, whose blocks begin at two addresses.
-pub fn put_instruction(
+pub(crate) fn put_instruction(
     s: &[u8],
     store: &mut [u32],
     slot: usize,

@@ -8,7 +8,7 @@ use lib.ListN.{length, getD, drop, drop-of-length-le}
 use lib.Seq.{drop-cons}
 use borrow.Author.Tests.{lt-ltb, le-ltb, eq-eqb, ne-eqb}
 use Rattle.cells.specs.Numbers.{part, be16}
-use Rattle.sheet.specs.Records.{endOf, countsAt}
+use Rattle.sheet.specs.Records.{countsAt}
 use Rattle.sheet.specs.Parser.{thenStep, checkTests, rising, checkCounts, checkIds, checkRecord, countsOf}
 use Rattle.sheet.specs.declared.Step.{Step}
 use Rattle.sheet.specs.declared.Counts.{Counts}

@@ -1,6 +1,6 @@
 -- Each way out of checking a whole sheet, from the facts that lead there.
-use Prim.Native.Nat.{ℕ, _+_, _≤_, _<_}
-use mathlib.Core.Path.{_≡_, refl, sym, ap, _∙_}
+use Prim.Native.Nat.{ℕ, _≤_, _<_}
+use mathlib.Core.Path.{_≡_, _∙_}
 use mathlib.Core.List.{List}
 use native.Mathlib.Omega.{arith}
 use lib.ListN.{length, getD}
@@ -8,7 +8,7 @@ use borrow.Author.Tests.{lt-ltb, le-ltb, eq-eqb, ne-eqb}
 use Rattle.cells.specs.Numbers.{be16, be32}
 use Rattle.meaning.specs.Trees.{Forest, size}
 use Rattle.sheet.specs.Records.{NodeRecord}
-use Rattle.sheet.specs.Parser.{Parsed, andThen, walkOf, parseTrees, parseEnd, parseSheet, checkedOf, nodeCount, rootCount}
+use Rattle.sheet.specs.Parser.{andThen, walkOf, parseTrees, parseEnd, parseSheet, checkedOf}
 use Rattle.sheet.specs.declared.Walk.{Walk}
 use Rattle.sheet.specs.declared.Checked.{Checked}
 use Rattle.sheet.proofs.WalkLaws.{walk-refused, walk-on}

@@ -1,14 +1,14 @@
 -- The walk over trees: each way out of one tree, and one turn of the loop over trees side by side.
 use Prim.Native.Nat.{ℕ, zero, suc, _+_, _-_, _≤_, _<_}
-use mathlib.Core.Path.{_≡_, refl, sym, ap, _∙_}
+use mathlib.Core.Path.{_≡_, refl, sym, ap}
 use mathlib.Core.List.{List}
 use native.Mathlib.Numerals.{sub-one}
 use native.Mathlib.Omega.{arith}
 use borrow.Author.Tests.{le-leb, lt-leb}
 use Rattle.cells.specs.Numbers.{be16}
-use Rattle.meaning.specs.Document.{Link, child, descendant, by-link}
+use Rattle.meaning.specs.Document.{by-link}
 use Rattle.meaning.specs.Trees.{Forest, Node, size}
-use Rattle.sheet.specs.Records.{NodeRecord, recordAt, countsAt, childCount, descendantCount}
+use Rattle.sheet.specs.Records.{NodeRecord, recordAt, countsAt}
 use Rattle.sheet.specs.Parser.{Parsed, andThen, afterStep, treeSize, checkRecord, parseTree, parseMany, treeAt, parseTrees, countsOf, walkOf}
 use Rattle.sheet.specs.declared.Step.{Step}
 use Rattle.sheet.specs.declared.Counts.{Counts}

@@ -41,5 +41,5 @@ sheetTests = record {
   tag-test = λ test position position-of-name tag. tagTestHolds (tag .name) position position-of-name test;
   attribute-test = λ test tag attributes. attributeTestHolds (html tag) attributes test;
   of-type = λ test. ofType (test .test);
-  not-of-type = λ test e position i j tag. not-of-type test e (tag .name) position i j
+  not-of-type = λ test e position i j tag. not-of-type test e (tag .name) position i j;
 }

@@ -5,7 +5,7 @@ use Prim.Native.Nat.{ℕ, zero, suc, _+_}
 use lib.Dec.{ltb, leb, eqb}
 use lib.ListN.{length, getD}
 use Rattle.cells.specs.Numbers.{part, be16, be32}
-use Rattle.meaning.specs.Document.{Link, child, descendant, by-link}
+use Rattle.meaning.specs.Document.{child, descendant, by-link}
 use Rattle.meaning.specs.Trees.{Forest, Node, size}
 use Rattle.sheet.specs.Records.{NodeRecord, recordAt, endOf, countsAt, childCount, descendantCount}
 use Rattle.sheet.specs.declared.Step.{Step}

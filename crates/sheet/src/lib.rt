@@ -11,14 +11,14 @@ ghost use Rattle.meaning.specs.Trees.{size};
 ghost use Rattle.sheet.specs.Records.{countsAt};
 ghost use Rattle.sheet.specs.Parser.{kindOk, nameLengthOk, comparisonOk, bodyOk, checkTest, checkTests, rising, checkCounts, checkIds, checkRecord, countsOf, walkOf, treeSize, treeAt, parseTrees, checkedOf, parseSheet};
 
-/// Where the next piece begins, or a refusal and its place.
-pub enum Step {
+// Where the next piece begins, or a refusal and its place.
+enum Step {
     Next(usize),
     Refused(u8, usize),
 }
 
-/// Where a record ends and how many child trees and descendant trees follow it, or a refusal and its place.
-pub enum Counts {
+// Where a record ends and how many child trees and descendant trees follow it, or a refusal and its place.
+enum Counts {
     Read {
         next: usize,
         children: usize,
@@ -27,8 +27,8 @@ pub enum Counts {
     Refused(u8, usize),
 }
 
-/// Where trees end and how many nodes were read up to there, or a refusal and its place.
-pub enum Walk {
+// Where trees end and how many nodes were read up to there, or a refusal and its place.
+enum Walk {
     On(usize, usize),
     Refused(u8, usize),
 }

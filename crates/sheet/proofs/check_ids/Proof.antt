@@ -1,5 +1,5 @@
 use native.Mathlib.Omega.{arith}
-use mathlib.Core.Path.{sym, _∙_}
+use mathlib.Core.Path.{_∙_}
 use Rattle.sheet.proofs.RecordLaws.{no-id-number, ids-past, ids-wrong, ids-right}
 use borrow.Author.Needs.{needs}
 use Rattle.sheet.proofs.check_ids.Statement.{statement}

@@ -1,6 +1,5 @@
 use borrow.Author.Tests.{lt-ltb, le-ltb}
 use Rattle.sheet.specs.Parser.{kindOk}
-use borrow.Author.Needs.{needs}
 use Rattle.sheet.proofs.kind_ok.Statement.{statement}
 use Rattle.sheet.proofs.kind_ok.Tie as tie
 use Rattle.sheet.proofs.kind_ok.Reads as reads

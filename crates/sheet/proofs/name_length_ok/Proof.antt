@@ -1,6 +1,5 @@
 use borrow.Author.Tests.{lt-ltb, le-ltb}
 use Rattle.sheet.specs.Parser.{nameLengthOk}
-use borrow.Author.Needs.{needs}
 use Rattle.sheet.proofs.name_length_ok.Statement.{statement}
 use Rattle.sheet.proofs.name_length_ok.Tie as tie
 use Rattle.sheet.proofs.name_length_ok.Reads as reads

@@ -5,7 +5,7 @@ use mathlib.Core.List.{List}
 use lib.ListN.{length}
 use lib.Seq.{sets}
 use Rattle.meaning.specs.Document.{child, descendant}
-use Rattle.sheet.specs.Spelling.{spelt-width}
+use Rattle.sheet.specs.SpellingLaws.{spelt-width}
 use Rattle.compiler.specs.Program.{row}
 use Rattle.compiler.specs.Placing.{instructionAt, Laid, layTrees, Room}
 use Rattle.compiler.proofs.PlacingLaws.{size-is, trees-none, trees-again}
