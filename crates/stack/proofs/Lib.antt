@@ -1,0 +1,4 @@
+pub mod Loops
+pub mod Counts
+pub mod Nodes
+pub mod Pushes
