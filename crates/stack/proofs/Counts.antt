@@ -7,10 +7,10 @@ use borrow.Author.Tests.{lt-ltb, le-ltb}
 use lib.ListN.{length, getD, set}
 use lib.Dec.{ltb}
 use Rattle.cells.specs.Stretches.{cellsFrom, written}
-use Rattle.stack.specs.Stores.{pairsTop, pairOf, known, timesOf, children, oneMore, nameCountedRows, nameCountedNames, countedRows, countedNames}
+use Rattle.stack.specs.Stores.{rowAt, pairAt, pairNameAt, opens, pairsTop, pairOf, known, timesOf, children, oneMore, nameCountedRows, nameCountedNames, countedRows, countedNames}
 use Rattle.stack.specs.Laws.{cells-all}
 
-pub child-is : (rows : List ℕ) (k r : ℕ) → k ≡ getD rows 0 0 → r ≡ getD rows (16 + k * 8 + 1) 0 → r ≡ children rows
+pub child-is : (rows : List ℕ) (k r : ℕ) → k ≡ opens rows → r ≡ getD rows (rowAt k + 1) 0 → r ≡ children rows
 unfolding children
 child-is rows k r ek er = rw (er, ek)
 
@@ -29,26 +29,26 @@ module _ (rows names x : List ℕ) (top i : ℕ) (et : top ≡ pairsTop rows) (e
   unfolding timesOf
   times-none h = sym (rw (known-no h))
 
-  pub times-found : i < top → (v : ℕ) → v ≡ getD rows (2072 + i * 2 + 1) 0 → v ≡ timesOf rows names x
+  pub times-found : i < top → (v : ℕ) → v ≡ getD rows (pairAt i + 1) 0 → v ≡ timesOf rows names x
   unfolding timesOf
   times-found h v e = sym (rw (known-yes h, ← ei, ← e))
 
-  pub name-again : i < top → (v w : ℕ) (r′ : List ℕ) → v ≡ getD rows (2072 + i * 2 + 1) 0 → w ≡ oneMore v → r′ ≡ set rows (2072 + i * 2 + 1) w
+  pub name-again : i < top → (v w : ℕ) (r′ : List ℕ) → v ≡ getD rows (pairAt i + 1) 0 → w ≡ oneMore v → r′ ≡ set rows (pairAt i + 1) w
       → (r′ ≡ nameCountedRows rows names x) × (names ≡ nameCountedNames rows names x)
   unfolding nameCountedRows nameCountedNames written
   name-again h v w r′ ev ew er = (sym (rw (known-yes h, ← times-found h v ev, ← ei, ← ew, ← er)), sym (rw (known-yes h)))
 
-  pub name-new : top ≤ i → (w : ℕ) (r1 r2 n′ : List ℕ) → r1 ≡ written rows (2072 + top * 2) (cellsFrom (length x ∷ 1 ∷ []) 0 2) → w ≡ oneMore top → r2 ≡ set r1 3 w
-      → n′ ≡ written names ((257 + top) * 64) (cellsFrom x 0 (length x)) → (r2 ≡ nameCountedRows rows names x) × (n′ ≡ nameCountedNames rows names x)
+  pub name-new : top ≤ i → (w : ℕ) (r1 r2 n′ : List ℕ) → r1 ≡ written rows (pairAt top) (cellsFrom (length x ∷ 1 ∷ []) 0 2) → w ≡ oneMore top → r2 ≡ set r1 3 w
+      → n′ ≡ written names (pairNameAt top) (cellsFrom x 0 (length x)) → (r2 ≡ nameCountedRows rows names x) × (n′ ≡ nameCountedNames rows names x)
   unfolding nameCountedRows nameCountedNames written cellsFrom
   name-new h w r1 r2 n′ e1 ew e2 en = (sym (rw (known-no h, ← et, ← ew, ← e1, ← e2)), en ∙ sym (rw (known-no h, ← et, cells-all x)))
 
-module _ (t : Bool) (rows names x : List ℕ) (k v n : ℕ) (ek : k ≡ getD rows 0 0) (ev : v ≡ getD rows (16 + k * 8 + 1) 0) (en : n ≡ oneMore v) where
-  pub counted-types : t ≡ true → (r1 r2 n1 : List ℕ) → r1 ≡ nameCountedRows rows names x → n1 ≡ nameCountedNames rows names x → r2 ≡ set r1 (16 + k * 8 + 1) n
+module _ (t : Bool) (rows names x : List ℕ) (k v n : ℕ) (ek : k ≡ opens rows) (ev : v ≡ getD rows (rowAt k + 1) 0) (en : n ≡ oneMore v) where
+  pub counted-types : t ≡ true → (r1 r2 n1 : List ℕ) → r1 ≡ nameCountedRows rows names x → n1 ≡ nameCountedNames rows names x → r2 ≡ set r1 (rowAt k + 1) n
       → (r2 ≡ countedRows t rows names x) × (n1 ≡ countedNames t rows names x)
   unfolding countedRows countedNames written
   counted-types h r1 r2 n1 e1 e2 e3 = (sym (rw (h, ← child-is rows k v ek ev, ← en, ← ek, ← e1, ← e3)), sym (rw (h, ← e2)))
 
-  pub counted-children : t ≡ false → (r1 : List ℕ) → r1 ≡ set rows (16 + k * 8 + 1) n → (r1 ≡ countedRows t rows names x) × (names ≡ countedNames t rows names x)
+  pub counted-children : t ≡ false → (r1 : List ℕ) → r1 ≡ set rows (rowAt k + 1) n → (r1 ≡ countedRows t rows names x) × (names ≡ countedNames t rows names x)
   unfolding countedRows countedNames written
   counted-children h r1 e1 = (sym (rw (h, ← child-is rows k v ek ev, ← en, ← ek, ← e1)), sym (rw h))

@@ -11,7 +11,7 @@ use lib.Seq.{drop-cons}
 use lib.Dec.{eqb}
 use Rattle.cells.specs.Stretches.{cellsFrom, written, length-cells}
 use Rattle.rules.specs.BytesLaws.{equal-ne}
-use Rattle.stack.specs.Stores.{holdsName, findPair, pairOf, pairNameAt, pairAt, nearest, rowAt, nameAt}
+use Rattle.stack.specs.Stores.{holdsName, findPair, pairOf, pairNameAt, pairAt, nearest, rowAt, rowWord, nameAt, opens, pairsTop}
 
 -- ---- copying
 module _ (to₀ to from : List ℕ) (start n at i : ℕ) (inv : written to₀ at (cellsFrom from start n) ≡ written to (at + i) (cellsFrom from (start + i) (n - i))) where
@@ -66,7 +66,7 @@ unfolding holdsName cellsFrom
 name-over names at n x i inv h = let e : length x - i ≡ 0 = omega arith in sym (inv ∙ rw (e, drop-of-length-le x h))
 
 -- ---- looking for a pair
-pub pair-start : (rows names x : List ℕ) (k top i : ℕ) → k ≡ getD rows 0 0 → top ≡ getD rows 3 0 → i ≡ getD rows (16 + k * 8 + 4) 0 → pairOf rows names x ≡ findPair rows names x i (top - i)
+pub pair-start : (rows names x : List ℕ) (k top i : ℕ) → k ≡ opens rows → top ≡ pairsTop rows → i ≡ rowWord rows k 4 → pairOf rows names x ≡ findPair rows names x i (top - i)
 unfolding pairOf
 pair-start rows names x k top i ek et ei = rw (ei, et, ek)
 

@@ -10,11 +10,11 @@ use lib.ListN.{length, getD, set, drop, length-append}
 use lib.Seq.{drop-cons, drop-length}
 use lib.Dec.{ltb}
 use Rattle.cells.specs.Stretches.{cellsFrom, written, cells-below}
-use Rattle.stack.specs.Stores.{blockLength, bears, bearers, listed, newAncestors, childBlock, descendantBlock}
+use Rattle.stack.specs.Stores.{instructionAt, blockLength, bears, bearers, listed, newAncestors, childBlock, descendantBlock}
 use Rattle.stack.specs.Laws.{written-cat, bearers-few, bearers-one, ancestors-few, ancestors-one}
 
 -- ---- one block
-module _ (program : List ℕ) (limit w a first count : ℕ) (ec : count ≡ getD program (a * 8 + w + 1) 0) (ef : first ≡ getD program (a * 8 + w) 0) where
+module _ (program : List ℕ) (limit w a first count : ℕ) (ec : count ≡ getD program (instructionAt a + w + 1) 0) (ef : first ≡ getD program (instructionAt a + w) 0) where
   pub block-within : first + count ≤ limit → ltb 0 count ≡ bears program limit w a
   unfolding bears blockLength
   block-within h = sym (rw (← ec, ← ef, le-leb _ _ h))

@@ -8,28 +8,28 @@ use borrow.Author.Tests.{lt-ltb, le-ltb, eq-eqb, ne-eqb}
 use lib.ListN.{length, getD, set}
 use lib.Dec.{ltb}
 use Rattle.cells.specs.Stretches.{cellsFrom, written}
-use Rattle.stack.specs.Stores.{Stores, stores, opens, parentsTop, ancestorsTop, pairsTop, bearers, newAncestors, withRow, pushed, nearest, through, poppedCount, backTo, poppedRows, poppedIds, topIds, heldRows, heldName, heldFound, freshRows}
+use Rattle.stack.specs.Stores.{openLimit, parentLimit, ancestorLimit, foundLimit, nameLimit, rowAt, nameAt, idsAt, idWords, ancestorsFrom, foundFrom, childBlock, rowWord, Stores, stores, opens, parentsTop, ancestorsTop, pairsTop, bearers, newAncestors, withRow, pushed, nearest, through, poppedCount, backTo, poppedRows, poppedIds, topIds, heldRows, heldName, heldFound, freshRows}
 use Rattle.stack.specs.Laws.{cells-all, bearers-few, ancestors-few}
 
-pub row-law : (rows r1 r2 : List ℕ) (n k p a t1 t2 t3 : ℕ) → t1 ≡ getD rows 1 0 → t2 ≡ getD rows 2 0 → t3 ≡ getD rows 3 0
-    → r1 ≡ written rows (16 + k * 8) (cellsFrom (n ∷ 0 ∷ t1 ∷ t2 ∷ t3 ∷ []) 0 5) → r2 ≡ written r1 0 (cellsFrom (k ∷ p ∷ a ∷ []) 0 3) → r2 ≡ withRow rows n k p a
+pub row-law : (rows r1 r2 : List ℕ) (n k p a t1 t2 t3 : ℕ) → t1 ≡ parentsTop rows → t2 ≡ ancestorsTop rows → t3 ≡ pairsTop rows
+    → r1 ≡ written rows (rowAt k) (cellsFrom (n ∷ 0 ∷ t1 ∷ t2 ∷ t3 ∷ []) 0 5) → r2 ≡ written r1 0 (cellsFrom (k ∷ p ∷ a ∷ []) 0 3) → r2 ≡ withRow rows n k p a
 unfolding withRow cellsFrom
 row-law rows r1 r2 n k p a t1 t2 t3 e1 e2 e3 f1 f2 = f2 ∙ rw (f1, e1, e2, e3)
 
 pub push-law : (program : List ℕ) (limit : ℕ) (s : Stores) (x w found : List ℕ) (d t1 t2 p a : ℕ) (r′ n′ i′ k1 k2 : List ℕ) → d ≡ opens (s .rows) → t1 ≡ parentsTop (s .rows) → t2 ≡ ancestorsTop (s .rows)
-    → k1 ≡ written (s .nodes) (4096 + t2) (newAncestors (cellsFrom (s .nodes) 4096 t2) program limit found) → a ≡ 4096 + t2 + length (newAncestors (cellsFrom (s .nodes) 4096 t2) program limit found)
-    → k2 ≡ written k1 t1 (bearers program limit 3 found) → p ≡ t1 + length (bearers program limit 3 found)
-    → n′ ≡ written (s .names) ((d + 1) * 64) (cellsFrom x 0 (length x)) → i′ ≡ written (s .ids) ((d + 1) * 2) (cellsFrom w 0 (length w))
-    → r′ ≡ withRow (s .rows) (length x) (d + 1) p (a - 4096) → stores r′ n′ i′ k2 ≡ pushed program limit s x w found
+    → k1 ≡ written (s .nodes) (ancestorsFrom + t2) (newAncestors (cellsFrom (s .nodes) ancestorsFrom t2) program limit found) → a ≡ ancestorsFrom + t2 + length (newAncestors (cellsFrom (s .nodes) ancestorsFrom t2) program limit found)
+    → k2 ≡ written k1 t1 (bearers program limit childBlock found) → p ≡ t1 + length (bearers program limit childBlock found)
+    → n′ ≡ written (s .names) (nameAt (d + 1)) (cellsFrom x 0 (length x)) → i′ ≡ written (s .ids) (idsAt (d + 1)) (cellsFrom w 0 (length w))
+    → r′ ≡ withRow (s .rows) (length x) (d + 1) p (a - ancestorsFrom) → stores r′ n′ i′ k2 ≡ pushed program limit s x w found
 unfolding pushed
 push-law program limit s x w found d t1 t2 p a r′ n′ i′ k1 k2 ed e1 e2 ek1 ea ek2 ep en ei er =
-    let z : a - 4096 ≡ t2 + length (newAncestors (cellsFrom (s .nodes) 4096 t2) program limit found) = omega arith in
+    let z : a - ancestorsFrom ≡ t2 + length (newAncestors (cellsFrom (s .nodes) ancestorsFrom t2) program limit found) = omega arith in
     rw (er, en, ei, ek2, ek1, z, ep, cells-all x, cells-all w, ed, e1, e2)
 
-pub room-law : (program old found : List ℕ) (limit n d t1 t2 p a : ℕ) → p ≡ t1 + length (bearers program limit 3 found) → a ≡ 4096 + t2 + length (newAncestors old program limit found)
-    → n ≤ 63 → d < 256 → t1 ≤ 4096 → t2 ≤ 1024 → length found ≤ 1024 → (n < 2 ^ 16) × (d + 1 < 2 ^ 16) × (p < 2 ^ 16) × (a - 4096 < 2 ^ 16)
+pub room-law : (program old found : List ℕ) (limit n d t1 t2 p a : ℕ) → p ≡ t1 + length (bearers program limit childBlock found) → a ≡ ancestorsFrom + t2 + length (newAncestors old program limit found)
+    → n ≤ nameLimit → d < openLimit → t1 ≤ parentLimit → t2 ≤ ancestorLimit → length found ≤ foundLimit → (n < 2 ^ 16) × (d + 1 < 2 ^ 16) × (p < 2 ^ 16) × (a - ancestorsFrom < 2 ^ 16)
 room-law program old found limit n d t1 t2 p a ep ea hn hd h1 h2 hf =
-    let f = bearers-few program limit 3 found in
+    let f = bearers-few program limit childBlock found in
     let g = ancestors-few old program limit found in
     (omega arith, omega arith, omega arith, omega arith)
 
@@ -44,12 +44,12 @@ module _ (rows names x : List ℕ) (p : ℕ) (ep : p ≡ nearest rows names x (o
   pops-some d ed h = (sym (rw (← ep, ← ed, ne-eqb _ _ h)), omega arith)
 
 -- ---- the pop
-module _ (rows ids out out′ : List ℕ) (n d : ℕ) (ed : d ≡ opens rows) (eo : out′ ≡ written out 0 (cellsFrom ids ((d - n + 1) * 2) (n * 2))) where
+module _ (rows ids out out′ : List ℕ) (n d : ℕ) (ed : d ≡ opens rows) (eo : out′ ≡ written out 0 (cellsFrom ids (idsAt (d - n + 1)) (n * idWords))) where
   pub pop-none : n ≡ 0 → (rows ≡ poppedRows rows n) × (out′ ≡ poppedIds rows ids out n)
   unfolding poppedRows poppedIds
   pop-none h = (sym (rw (eq-eqb _ _ h)), eo ∙ rw ed)
 
-  pub pop-some : (n ≡ 0 → ⊥) → (t1 t2 t3 : ℕ) (r′ : List ℕ) → t1 ≡ getD rows (16 + (d - n + 1) * 8 + 2) 0 → t2 ≡ getD rows (16 + (d - n + 1) * 8 + 3) 0 → t3 ≡ getD rows (16 + (d - n + 1) * 8 + 4) 0
+  pub pop-some : (n ≡ 0 → ⊥) → (t1 t2 t3 : ℕ) (r′ : List ℕ) → t1 ≡ rowWord rows (d - n + 1) 2 → t2 ≡ rowWord rows (d - n + 1) 3 → t3 ≡ rowWord rows (d - n + 1) 4
       → r′ ≡ written rows 0 (cellsFrom ((d - n) ∷ t1 ∷ t2 ∷ t3 ∷ []) 0 4) → (r′ ≡ poppedRows rows n) × (out′ ≡ poppedIds rows ids out n)
   unfolding poppedRows poppedIds backTo cellsFrom
   pop-some h t1 t2 t3 r′ e1 e2 e3 er = (er ∙ sym (rw (ne-eqb _ _ h, ← ed, ← e1, ← e2, ← e3)), eo ∙ rw ed)
@@ -60,14 +60,14 @@ module _ (rows ids out : List ℕ) (d : ℕ) (ed : d ≡ opens rows) where
   unfolding topIds
   top-none h = let z : ltb 0 d ≡ false = le-ltb 0 d (omega arith) in rw (← ed) (sym z, sym (rw (eq-eqb _ _ h)))
 
-  pub top-some : (d ≡ 0 → ⊥) → (out′ : List ℕ) → out′ ≡ written out 0 (cellsFrom ids (d * 2) 2) → (true ≡ ltb 0 (opens rows)) × (out′ ≡ topIds rows ids out)
+  pub top-some : (d ≡ 0 → ⊥) → (out′ : List ℕ) → out′ ≡ written out 0 (cellsFrom ids (idsAt d) idWords) → (true ≡ ltb 0 (opens rows)) × (out′ ≡ topIds rows ids out)
   unfolding topIds
   top-some h out′ e = let z : ltb 0 d ≡ true = lt-ltb 0 d (omega arith) in rw (← ed) (sym z, e ∙ sym (rw (ne-eqb _ _ h)))
 
 -- ---- the waiting record
 pub hold-law : (rows names nodes x found r′ n′ k′ : List ℕ) (kind stage slot at stop : ℕ) → r′ ≡ written rows 4 (cellsFrom (1 ∷ length x ∷ kind ∷ length found ∷ stage ∷ slot ∷ at ∷ stop ∷ []) 0 8)
-    → n′ ≡ written names 0 (cellsFrom x 0 (length x)) → k′ ≡ written nodes 5120 (cellsFrom found 0 (length found))
-    → (r′ ≡ heldRows rows x kind found stage slot at stop) × (n′ ≡ written names 0 x) × (k′ ≡ written nodes 5120 found)
+    → n′ ≡ written names 0 (cellsFrom x 0 (length x)) → k′ ≡ written nodes foundFrom (cellsFrom found 0 (length found))
+    → (r′ ≡ heldRows rows x kind found stage slot at stop) × (n′ ≡ written names 0 x) × (k′ ≡ written nodes foundFrom found)
 unfolding heldRows cellsFrom
 hold-law rows names nodes x found r′ n′ k′ kind stage slot at stop er en ek = (er, en ∙ rw (cells-all x), ek ∙ rw (cells-all found))
 

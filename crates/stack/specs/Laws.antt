@@ -9,7 +9,7 @@ use borrow.Author.Tests.{lt-ltb}
 use lib.ListN.{length, getD, set, drop, length-append}
 use lib.Seq.{drop-cons, drop-length}
 use Rattle.cells.specs.Stretches.{cellsFrom, written}
-use Rattle.stack.specs.Stores.{oneMore, bears, bearers, listed, newAncestors, descendantBlock}
+use Rattle.stack.specs.Stores.{countLimit, oneMore, bears, bearers, listed, newAncestors, descendantBlock}
 
 -- ---- stretches
 cells-from : (xs : List ℕ) (i n : ℕ) → i + n ≡ length xs → cellsFrom xs i n ≡ drop i xs
@@ -27,7 +27,7 @@ written-cat xs a [] ws = let e : a + 0 ≡ a = omega arith in rw e
 written-cat xs a (v ∷ vs) ws = let e : a + suc (length vs) ≡ a + 1 + length vs = omega arith in rw e (written-cat (set xs a v) (a + 1) vs ws)
 
 -- ---- a count that is not full rises by one
-pub one-more : (n : ℕ) → n < 4294967295 → oneMore n ≡ n + 1
+pub one-more : (n : ℕ) → n < countLimit → oneMore n ≡ n + 1
 unfolding oneMore
 one-more n h = rw (lt-ltb _ _ h)
 

@@ -7,16 +7,19 @@ use lib.Dec.{eqb, ltb, leb}
 use Rattle.cells.specs.Stretches.{cellsFrom, written}
 use Rattle.rules.specs.Bytes.{equalBytes}
 
--- ---- Sizes, limits and addresses. The code's constants in src/lib.rt are these.
+-- ---- Sizes, limits and addresses: all that changes with them stands here and in the constants of src/lib.rt.
 
--- Words of the header, and of the row of an open element.
+-- Words of the header, of the row of an open element, and of a pair of name and level.
 abbrev pub headerSize : ℕ
 headerSize = 16
 
 abbrev pub rowSize : ℕ
 rowSize = 8
 
--- Open elements, pairs of name and level, and live nodes that there is room for (01, section 2: 27, 26, 28).
+abbrev pub pairSize : ℕ
+pairSize = 2
+
+-- Open elements, pairs, parents, ancestors and found nodes that there is room for (01, section 2: 27, 26, 28; N is at most 1,024).
 abbrev pub openLimit : ℕ
 openLimit = 256
 
@@ -42,31 +45,31 @@ nameSize = 64
 abbrev pub idWords : ℕ
 idWords = 2
 
--- The row of open element k; row 0 is the root level.
+-- The row of open element k, behind the header; row 0 is the root level's.
 abbrev pub rowAt : ℕ → ℕ
-rowAt k = 16 + k * 8
+rowAt k = headerSize + k * rowSize
 
--- Pair i stands behind the rows: length of its name, times.
+-- Pair i, behind the rows: 0 length of its name, 1 times.
 abbrev pub pairAt : ℕ → ℕ
-pairAt i = 2072 + i * 2
+pairAt i = rowAt (openLimit + 1) + i * pairSize
 
 -- The name of open element k; slot 0 is the waiting tag's. The names of the pairs stand behind those of the elements.
 abbrev pub nameAt : ℕ → ℕ
-nameAt k = k * 64
+nameAt k = k * nameSize
 
 abbrev pub pairNameAt : ℕ → ℕ
-pairNameAt i = (257 + i) * 64
+pairNameAt i = nameAt (openLimit + 1 + i)
 
 -- The id words of open element k.
 abbrev pub idsAt : ℕ → ℕ
-idsAt k = k * 2
+idsAt k = k * idWords
 
--- Among the nodes: parents from 0, then ancestors, then the found nodes of the waiting tag.
+-- Among the nodes: parents from 0 on, then ancestors, then the found nodes of the waiting tag.
 abbrev pub ancestorsFrom : ℕ
-ancestorsFrom = 4096
+ancestorsFrom = parentLimit
 
 abbrev pub foundFrom : ℕ
-foundFrom = 5120
+foundFrom = parentLimit + ancestorLimit
 
 -- Sizes of the four stores, in cells (01, section 2: 31).
 abbrev pub rowsSize : ℕ
@@ -113,9 +116,12 @@ rowWord rows k j = getD rows (rowAt k + j) 0
 unfoldable pub children : List ℕ → ℕ
 children rows = rowWord rows (opens rows) 1
 
--- One more, as far as a cell can count.
+-- The largest number that a cell holds; one more, as far as a cell can count.
+abbrev pub countLimit : ℕ
+countLimit = 4294967295
+
 unfoldable pub oneMore : ℕ → ℕ
-oneMore n = cond (ltb n 4294967295) (n + 1) n
+oneMore n = cond (ltb n countLimit) (n + 1) n
 
 -- ---- Names that are counted at the open level.
 
@@ -159,7 +165,10 @@ countedNames types rows names x = cond types (nameCountedNames rows names x) nam
 abbrev pub counted : Bool → Stores → List ℕ → Stores
 counted types s x = stores (countedRows types (s .rows) (s .names) x) (countedNames types (s .rows) (s .names) x) (s .ids) (s .nodes)
 
--- ---- Which found nodes have trees. Instruction row a stands at a * 8: 3 first and 4 count of its child block, 5 and 6 of its descendant block.
+-- ---- Which found nodes have trees. Words of an instruction row: 3 first and 4 count of the child block, 5 and 6 of the descendant block.
+abbrev pub instructionAt : ℕ → ℕ
+instructionAt a = a * 8
+
 abbrev pub childBlock : ℕ
 childBlock = 3
 
@@ -168,7 +177,7 @@ descendantBlock = 5
 
 -- How many nodes a block has: none if it does not end within the limit.
 unfoldable pub blockLength : List ℕ → ℕ → ℕ → ℕ → ℕ
-blockLength program limit w a = cond (leb (getD program (a * 8 + w) 0 + getD program (a * 8 + w + 1) 0) limit) (getD program (a * 8 + w + 1) 0) 0
+blockLength program limit w a = cond (leb (getD program (instructionAt a + w) 0 + getD program (instructionAt a + w + 1) 0) limit) (getD program (instructionAt a + w + 1) 0) 0
 
 -- Whether a node has trees in that block.
 unfoldable pub bears : List ℕ → ℕ → ℕ → ℕ → Bool

@@ -1,4 +1,19 @@
 //! The open elements (StackItem): push, nearest name, pop, and the ids of the top.
+use crate::ANCESTORS;
+use crate::ANCESTORS_MARK;
+use crate::ANCESTORS_TOP;
+use crate::CHILD_BLOCK;
+use crate::DESCENDANT_BLOCK;
+use crate::ID_WORDS;
+use crate::INSTRUCTION;
+use crate::NAME;
+use crate::OPENS;
+use crate::PAIRS_MARK;
+use crate::PAIRS_TOP;
+use crate::PARENTS_MARK;
+use crate::PARENTS_TOP;
+use crate::ROW;
+use crate::ROWS;
 use crate::copies::copy8;
 use crate::copies::copy32;
 use crate::copies::copy64;
@@ -13,14 +28,14 @@ ghost use Prim.Native.Nat.{_+_, _-_, _<_, _≤_, _^_};
 ghost use lib.ListN.{length, getD};
 ghost use lib.Dec.{ltb, eqb};
 ghost use Rattle.cells.specs.Stretches.{cellsFrom, written};
-ghost use Rattle.stack.specs.Stores.{stores, opens, parentsTop, ancestorsTop, childBlock, rowAt, bears, bearers, listed, newAncestors, withRow, pushed, nearest, through, poppedCount, backTo, poppedRows, poppedIds, topIds};
+ghost use Rattle.stack.specs.Stores.{openLimit, parentLimit, ancestorLimit, foundLimit, nameLimit, idWords, stores, opens, parentsTop, ancestorsTop, childBlock, rowAt, bears, bearers, listed, newAncestors, withRow, pushed, nearest, through, poppedCount, backTo, poppedRows, poppedIds, topIds};
 
 // Whether a node has trees in the block that word w of its instruction row begins.
 fn has_block(program: &[u32], limit: usize, w: usize, node: u16) -> bool
     requires { ⌜ w < 8 ⌝ }
     ensures { λ r. ⌜ r ≡ bears (now (program .entry)) limit w node ⌝ }
 {
-    let at = node as usize * 8 + w;
+    let at = node as usize * INSTRUCTION + w;
     let count = at32(program, at + 1);
     if at32(program, at) + count <= limit {
         return 0 < count;
@@ -31,7 +46,7 @@ fn has_block(program: &[u32], limit: usize, w: usize, node: u16) -> bool
 fn count_parent(program: &[u32], limit: usize, node: u16) -> usize
     ensures { λ r. ⌜ (r ≡ length (bearers (now (program .entry)) limit childBlock (node ∷ []))) × (r ≤ 1) ⌝ }
 {
-    if has_block(program, limit, 3, node) {
+    if has_block(program, limit, CHILD_BLOCK, node) {
         return 1;
     }
     0
@@ -54,7 +69,7 @@ fn keep_parent(nodes: &mut [u16], k: usize, program: &[u32], limit: usize, node:
     requires { ⌜ k < 2 ^ 63 ⌝ }
     ensures { λ r. ⌜ (now (nodes .exit) ≡ written (now (nodes .entry)) k (bearers (now (program .entry)) limit childBlock (node ∷ []))) × (r ≡ k + length (bearers (now (program .entry)) limit childBlock (node ∷ []))) ⌝ }
 {
-    if has_block(program, limit, 3, node) {
+    if has_block(program, limit, CHILD_BLOCK, node) {
         put16(nodes, k, node);
         return k + 1;
     }
@@ -101,7 +116,7 @@ fn keep_ancestor(
     requires { ⌜ (base < 2 ^ 40) × (top < 2 ^ 40) × (k < 2 ^ 63) ⌝ }
     ensures { λ r. ⌜ (now (nodes .exit) ≡ written (now (nodes .entry)) k (newAncestors (cellsFrom (now (nodes .entry)) base top) (now (program .entry)) limit (node ∷ []))) × (r ≡ k + length (newAncestors (cellsFrom (now (nodes .entry)) base top) (now (program .entry)) limit (node ∷ []))) ⌝ }
 {
-    if !has_block(program, limit, 5, node) {
+    if !has_block(program, limit, DESCENDANT_BLOCK, node) {
         return k;
     }
     if is_listed(nodes, base, top, node) {
@@ -136,13 +151,19 @@ fn put_row(rows: &mut [u32], n: usize, k: usize, parents: usize, ancestors: usiz
     requires { ⌜ (n < 2 ^ 16) × (k < 2 ^ 16) × (parents < 2 ^ 16) × (ancestors < 2 ^ 16) ⌝ }
     ensures { λ _. ⌜ now (rows .exit) ≡ withRow (now (rows .entry)) n k parents ancestors ⌝ }
 {
-    let row = [n as u32, 0, get32(rows, 1), get32(rows, 2), get32(rows, 3)];
+    let row = [
+        n as u32,
+        0,
+        get32(rows, PARENTS_TOP),
+        get32(rows, ANCESTORS_TOP),
+        get32(rows, PAIRS_TOP),
+    ];
     let header = [k as u32, parents as u32, ancestors as u32];
-    copy32(&row, 0, 5, rows, 16 + k * 8);
+    copy32(&row, 0, 5, rows, ROWS + k * ROW);
     copy32(&header, 0, 3, rows, 0);
 }
 
-// The push. Its refusals come before it: 30 for a header past the limits, 27 and 28.
+// The push. The machine tests the bounds before: the header's as refusal 30, room for one more as 27.
 pub fn push_item(
     rows: &mut [u32],
     names: &mut [u8],
@@ -154,14 +175,22 @@ pub fn push_item(
     words: &[u64],
     found: &[u16],
 )
-    requires { ⌜ (opens (now rows) < 256) × (parentsTop (now rows) ≤ 4096) × (ancestorsTop (now rows) ≤ 1024) × (length (now name) ≤ 63) × (length (now words) ≤ 2) × (length (now found) ≤ 1024) ⌝ }
+    requires { ⌜ (opens (now rows) < openLimit) × (parentsTop (now rows) ≤ parentLimit) × (ancestorsTop (now rows) ≤ ancestorLimit) × (length (now name) ≤ nameLimit) × (length (now words) ≤ idWords) × (length (now found) ≤ foundLimit) ⌝ }
     ensures { λ _. ⌜ stores (now (rows .exit)) (now (names .exit)) (now (ids .exit)) (now (nodes .exit)) ≡ pushed (now (program .entry)) limit (stores (now (rows .entry)) (now (names .entry)) (now (ids .entry)) (now (nodes .entry))) (now (name .entry)) (now (words .entry)) (now (found .entry)) ⌝ }
 {
-    let k = at32(rows, 0) + 1;
-    let ancestors = put_ancestors(nodes, 4096, at32(rows, 2), program, limit, found) - 4096;
-    let parents = put_parents(nodes, at32(rows, 1), program, limit, found);
-    copy8(name, 0, name.len(), names, k * 64);
-    copy64(words, 0, words.len(), ids, k * 2);
+    let k = at32(rows, OPENS) + 1;
+    let ancestors = put_ancestors(
+        nodes,
+        ANCESTORS,
+        at32(rows, ANCESTORS_TOP),
+        program,
+        limit,
+        found,
+    )
+        - ANCESTORS;
+    let parents = put_parents(nodes, at32(rows, PARENTS_TOP), program, limit, found);
+    copy8(name, 0, name.len(), names, k * NAME);
+    copy64(words, 0, words.len(), ids, k * ID_WORDS);
     put_row(rows, name.len(), k, parents, ancestors);
 }
 
@@ -169,9 +198,9 @@ pub fn push_item(
 pub fn find_open(rows: &[u32], names: &[u8], name: &[u8]) -> usize
     ensures { λ r. ⌜ (r ≡ nearest (now (rows .entry)) (now (names .entry)) (now (name .entry)) (opens (now (rows .entry)))) × (r ≤ opens (now (rows .entry))) ⌝ }
 {
-    let mut k = at32(rows, 0);
+    let mut k = at32(rows, OPENS);
     while 0 < k {
-        if holds_name(names, k * 64, at32(rows, 16 + k * 8), name) {
+        if holds_name(names, k * NAME, at32(rows, ROWS + k * ROW), name) {
             return k;
         }
         k -= 1;
@@ -187,7 +216,7 @@ pub fn count_popped(rows: &[u32], names: &[u8], name: &[u8]) -> usize
     if p == 0 {
         return 0;
     }
-    at32(rows, 0) + 1 - p
+    at32(rows, OPENS) + 1 - p
 }
 
 // The pop of the n innermost: their ids go out, the outermost first, and the header is as it was before that one came.
@@ -195,17 +224,17 @@ pub fn pop_items(rows: &mut [u32], ids: &[u64], n: usize, out: &mut [u64])
     requires { ⌜ n ≤ opens (now rows) ⌝ }
     ensures { λ _. ⌜ (now (rows .exit) ≡ poppedRows (now (rows .entry)) n) × (now (out .exit) ≡ poppedIds (now (rows .entry)) (now (ids .entry)) (now (out .entry)) n) ⌝ }
 {
-    let k = at32(rows, 0) - n;
-    copy64(ids, (k + 1) * 2, n * 2, out, 0);
+    let k = at32(rows, OPENS) - n;
+    copy64(ids, (k + 1) * ID_WORDS, n * ID_WORDS, out, 0);
     if n == 0 {
         return;
     }
-    let row = 16 + (k + 1) * 8;
+    let row = ROWS + (k + 1) * ROW;
     let header = [
         k as u32,
-        get32(rows, row + 2),
-        get32(rows, row + 3),
-        get32(rows, row + 4),
+        get32(rows, row + PARENTS_MARK),
+        get32(rows, row + ANCESTORS_MARK),
+        get32(rows, row + PAIRS_MARK),
     ];
     copy32(&header, 0, 4, rows, 0);
 }
@@ -214,10 +243,10 @@ pub fn pop_items(rows: &mut [u32], ids: &[u64], n: usize, out: &mut [u64])
 pub fn top_ids(rows: &[u32], ids: &[u64], out: &mut [u64]) -> bool
     ensures { λ r. ⌜ (r ≡ ltb 0 (opens (now (rows .entry)))) × (now (out .exit) ≡ topIds (now (rows .entry)) (now (ids .entry)) (now (out .entry))) ⌝ }
 {
-    let k = at32(rows, 0);
+    let k = at32(rows, OPENS);
     if k == 0 {
         return false;
     }
-    copy64(ids, k * 2, 2, out, 0);
+    copy64(ids, k * ID_WORDS, ID_WORDS, out, 0);
     true
 }

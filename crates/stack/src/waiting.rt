@@ -1,4 +1,8 @@
 //! The waiting record: a tag that waits for its attributes, with the nodes found so far and the place to go on from.
+use crate::FOUND;
+use crate::HELD_FOUND;
+use crate::HELD_NAME;
+use crate::WAITS;
 use crate::copies::copy8;
 use crate::copies::copy16;
 use crate::copies::copy32;
@@ -8,7 +12,7 @@ ghost use mathlib.Core.Path.{_≡_};
 ghost use Prim.Native.Nat.{_<_, _≤_, _^_};
 ghost use lib.ListN.{length, getD};
 ghost use Rattle.cells.specs.Stretches.{written};
-ghost use Rattle.stack.specs.Stores.{stores, foundFrom, heldRows, heldName, heldFound, releasedRows, freshRows};
+ghost use Rattle.stack.specs.Stores.{nameLimit, foundLimit, foundFrom, heldRows, heldName, heldFound, releasedRows, freshRows};
 
 // A tag begins to wait.
 pub fn hold(
@@ -23,7 +27,7 @@ pub fn hold(
     at: u32,
     stop: u32,
 )
-    requires { ⌜ (length (now name) ≤ 63) × (length (now found) ≤ 1024) ⌝ }
+    requires { ⌜ (length (now name) ≤ nameLimit) × (length (now found) ≤ foundLimit) ⌝ }
     ensures { λ _. ⌜ (now (rows .exit) ≡ heldRows (now (rows .entry)) (now (name .entry)) kind (now (found .entry)) stage slot at stop) × (now (names .exit) ≡ written (now (names .entry)) 0 (now (name .entry))) × (now (nodes .exit) ≡ written (now (nodes .entry)) foundFrom (now (found .entry))) ⌝ }
 {
     let record = [
@@ -36,23 +40,23 @@ pub fn hold(
         at,
         stop,
     ];
-    copy32(&record, 0, 8, rows, 4);
+    copy32(&record, 0, 8, rows, WAITS);
     copy8(name, 0, name.len(), names, 0);
-    copy16(found, 0, found.len(), nodes, 5120);
+    copy16(found, 0, found.len(), nodes, FOUND);
 }
 
 // It waits no longer.
 pub fn release(rows: &mut [u32])
     ensures { λ _. ⌜ now (rows .exit) ≡ releasedRows (now (rows .entry)) ⌝ }
 {
-    put32(rows, 4, 0);
+    put32(rows, WAITS, 0);
 }
 
 // The name of the waiting tag; the answer is its length.
 pub fn held_name(rows: &[u32], names: &[u8], out: &mut [u8]) -> usize
     ensures { λ r. ⌜ (r ≡ getD (now (rows .entry)) 5 0) × (now (out .exit) ≡ written (now (out .entry)) 0 (heldName (now (rows .entry)) (now (names .entry)))) ⌝ }
 {
-    let n = at32(rows, 5);
+    let n = at32(rows, HELD_NAME);
     copy8(names, 0, n, out, 0);
     n
 }
@@ -61,8 +65,8 @@ pub fn held_name(rows: &[u32], names: &[u8], out: &mut [u8]) -> usize
 pub fn held_found(rows: &[u32], nodes: &[u16], out: &mut [u16]) -> usize
     ensures { λ r. ⌜ (r ≡ getD (now (rows .entry)) 7 0) × (now (out .exit) ≡ written (now (out .entry)) 0 (heldFound (now (rows .entry)) (now (nodes .entry)))) ⌝ }
 {
-    let n = at32(rows, 7);
-    copy16(nodes, 5120, n, out, 0);
+    let n = at32(rows, HELD_FOUND);
+    copy16(nodes, FOUND, n, out, 0);
     n
 }
 

@@ -2,14 +2,14 @@ use mathlib.Core.Path.{_≡_, refl}
 use Prim.Native.Nat.{_+_, _-_, _≤_}
 use native.Mathlib.Omega.{arith}
 use lib.ListN.{length, drop}
-use Rattle.stack.specs.Stores.{bearers}
+use Rattle.stack.specs.Stores.{childBlock, bearers}
 use Rattle.stack.proofs.Nodes.{count-start, count-again, count-over}
 use borrow.Author.Needs.{needs}
 use Rattle.stack.proofs.items.count_parents.Statement.{statement}
 use Rattle.stack.proofs.items.count_parents.Tie as tie
 
 abbrev Inv-loop : tie.InvT-loop
-Inv-loop program limit found k₀ i₀ k i = (i ≤ length found) × (k ≤ i) × (length (bearers program limit 3 found) ≡ k + length (bearers program limit 3 (drop i found)))
+Inv-loop program limit found k₀ i₀ k i = (i ≤ length found) × (k ≤ i) × (length (bearers program limit childBlock found) ≡ k + length (bearers program limit childBlock (drop i found)))
 
 abbrev μ-loop : tie.MeasureT-loop
 μ-loop program limit found k₀ i₀ k i = length found - i

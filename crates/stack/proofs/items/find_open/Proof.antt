@@ -1,15 +1,14 @@
 use mathlib.Core.Path.{_≡_, refl, sym, ap}
 use Prim.Native.Nat.{_≤_}
 use native.Mathlib.Omega.{arith}
-use lib.ListN.{getD}
-use Rattle.stack.specs.Stores.{nearest}
+use Rattle.stack.specs.Stores.{opens, nearest}
 use Rattle.stack.proofs.Loops.{open-here, open-later, open-none}
 use borrow.Author.Needs.{needs}
 use Rattle.stack.proofs.items.find_open.Statement.{statement}
 use Rattle.stack.proofs.items.find_open.Tie as tie
 
 abbrev Inv-loop : tie.InvT-loop
-Inv-loop rows names name k₀ k = (k ≤ getD rows 0 0) × (nearest rows names name (getD rows 0 0) ≡ nearest rows names name k)
+Inv-loop rows names name k₀ k = (k ≤ opens rows) × (nearest rows names name (opens rows) ≡ nearest rows names name k)
 
 abbrev μ-loop : tie.MeasureT-loop
 μ-loop rows names name k₀ k = k

@@ -3,14 +3,14 @@ use Prim.Native.Nat.{_+_, _-_, _≤_}
 use native.Mathlib.Omega.{arith}
 use lib.ListN.{length, drop}
 use Rattle.cells.specs.Stretches.{written}
-use Rattle.stack.specs.Stores.{bearers}
+use Rattle.stack.specs.Stores.{childBlock, bearers}
 use Rattle.stack.proofs.Nodes.{parents-again, parents-over}
 use borrow.Author.Needs.{needs}
 use Rattle.stack.proofs.items.put_parents.Statement.{statement}
 use Rattle.stack.proofs.items.put_parents.Tie as tie
 
 abbrev Inv-loop : tie.InvT-loop
-Inv-loop nodes₀ at program limit found k₀ i₀ nodes k i = (i ≤ length found) × (length nodes ≡ length nodes₀) × (k ≤ at + i) × (written nodes₀ at (bearers program limit 3 found) ≡ written nodes k (bearers program limit 3 (drop i found))) × (at + length (bearers program limit 3 found) ≡ k + length (bearers program limit 3 (drop i found)))
+Inv-loop nodes₀ at program limit found k₀ i₀ nodes k i = (i ≤ length found) × (length nodes ≡ length nodes₀) × (k ≤ at + i) × (written nodes₀ at (bearers program limit childBlock found) ≡ written nodes k (bearers program limit childBlock (drop i found))) × (at + length (bearers program limit childBlock found) ≡ k + length (bearers program limit childBlock (drop i found)))
 
 abbrev μ-loop : tie.MeasureT-loop
 μ-loop nodes₀ at program limit found k₀ i₀ nodes k i = length found - i
