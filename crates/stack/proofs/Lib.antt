@@ -1,4 +1,3 @@
 pub mod Loops
 pub mod Counts
-pub mod Nodes
-pub mod Pushes
+pub mod Waits

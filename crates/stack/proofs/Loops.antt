@@ -1,17 +1,16 @@
 -- One law for each turn and each way out of the loops.
-use mathlib.Core.Path.{_≡_, refl, sym, _∙_, ap}
-use mathlib.Core.Bool.{Bool, true, false, cond}
-use mathlib.Core.List.{List, [], _∷_}
-use Prim.Native.Nat.{ℕ, zero, suc, _+_, _-_, _*_, _<_, _≤_}
+use mathlib.Core.Path.{_≡_, sym, _∙_, ap}
+use mathlib.Core.Bool.{Bool, true, false}
+use mathlib.Core.List.{List}
+use Prim.Native.Nat.{ℕ, suc, _+_, _-_, _<_, _≤_}
 use native.Mathlib.Omega.{arith}
 use native.Mathlib.Numerals.{add-one}
 use borrow.Author.Tests.{eq-eqb, ne-eqb}
 use lib.ListN.{length, getD, set, drop, drop-of-length-le}
 use lib.Seq.{drop-cons}
-use lib.Dec.{eqb}
 use Rattle.cells.specs.Stretches.{cellsFrom, written, length-cells}
 use Rattle.rules.specs.BytesLaws.{equal-ne}
-use Rattle.stack.specs.Stores.{holdsName, findPair, pairOf, pairNameAt, pairAt, nearest, rowAt, rowWord, nameAt, opens, pairsTop}
+use Rattle.stack.specs.Stores.{holdsName, findPair, pairOf, pairNameAt, pairAt, rowWord, opens, pairsTop}
 
 -- ---- copying
 module _ (to₀ to from : List ℕ) (start n at i : ℕ) (inv : written to₀ at (cellsFrom from start n) ≡ written to (at + i) (cellsFrom from (start + i) (n - i))) where
@@ -89,30 +88,3 @@ module _ (rows names x : List ℕ) (p i top : ℕ) (inv : p ≡ findPair rows na
 pub pair-none : (rows names x : List ℕ) (p i top : ℕ) → p ≡ findPair rows names x i (top - i) → top ≤ i → i ≡ p
 unfolding findPair
 pair-none rows names x p i top inv h = let e : top - i ≡ 0 = omega arith in sym (inv ∙ rw e)
-
--- ---- looking for an open element
-near-here : (rows names x : List ℕ) (k j : ℕ) → k ≡ suc j → holdsName names (nameAt k) (getD rows (rowAt k) 0) x ≡ true → nearest rows names x k ≡ k
-unfolding nearest
-near-here rows names x k j e t =
-    let z : rowAt (suc j) + 0 ≡ rowAt (suc j) = omega arith in
-    let q : holdsName names (nameAt (suc j)) (getD rows (rowAt (suc j)) 0) x ≡ true = rw e at t in
-    rw (e, z, q)
-
-near-later : (rows names x : List ℕ) (k j : ℕ) → k ≡ suc j → holdsName names (nameAt k) (getD rows (rowAt k) 0) x ≡ false → nearest rows names x k ≡ nearest rows names x j
-unfolding nearest
-near-later rows names x k j e t =
-    let z : rowAt (suc j) + 0 ≡ rowAt (suc j) = omega arith in
-    let q : holdsName names (nameAt (suc j)) (getD rows (rowAt (suc j)) 0) x ≡ false = rw e at t in
-    rw (e, z, q)
-
-module _ (rows names x : List ℕ) (p k : ℕ) (inv : p ≡ nearest rows names x k) where
-  module _ (h : 0 < k) (n : ℕ) (b : Bool) (en : n ≡ getD rows (rowAt k) 0) (eb : b ≡ holdsName names (nameAt k) n x) where
-    pub open-here : b ≡ true → k ≡ p
-    open-here t = sym (inv ∙ near-here rows names x k (k - 1) (omega arith) (rw (← en) (sym eb ∙ t)))
-
-    pub open-later : b ≡ false → p ≡ nearest rows names x (k - 1)
-    open-later t = inv ∙ near-later rows names x k (k - 1) (omega arith) (rw (← en) (sym eb ∙ t))
-
-  pub open-none : k ≤ 0 → 0 ≡ p
-  unfolding nearest
-  open-none h = let e : k ≡ 0 = omega arith in sym (inv ∙ rw e)

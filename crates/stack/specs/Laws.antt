@@ -1,12 +1,12 @@
 -- Laws of the operations on the stores.
-use mathlib.Core.Path.{_≡_, refl, sym, _∙_, ap}
+use mathlib.Core.Path.{_≡_, refl, sym}
 use mathlib.Core.Bool.{Bool, true, false, cond}
 use mathlib.Core.List.{List, [], _∷_, _++_}
-use Prim.Native.Nat.{ℕ, zero, suc, _+_, _-_, _*_, _<_, _≤_}
+use Prim.Native.Nat.{ℕ, zero, suc, _+_, _-_, _<_, _≤_}
 use native.Mathlib.Omega.{arith}
 use native.Mathlib.Numerals.{add-one}
 use borrow.Author.Tests.{lt-ltb}
-use lib.ListN.{length, getD, set, drop, length-append}
+use lib.ListN.{length, set, drop}
 use lib.Seq.{drop-cons, drop-length}
 use Rattle.cells.specs.Stretches.{cellsFrom, written}
 use Rattle.stack.specs.Stores.{countLimit, oneMore, bears, bearers, listed, newAncestors, descendantBlock}

@@ -1,12 +1,12 @@
 -- What is read after each operation: what it wrote, and all other cells as they were.
-use mathlib.Core.Path.{_≡_, refl, sym, _∙_, ap}
+use mathlib.Core.Path.{_≡_, _∙_}
 use mathlib.Core.Bool.{Bool, true, false, cond}
 use mathlib.Core.List.{List, [], _∷_}
-use Prim.Native.Nat.{ℕ, zero, suc, _+_, _-_, _*_, _<_, _≤_}
+use Prim.Native.Nat.{ℕ, _+_, _-_, _<_, _≤_}
 use native.Mathlib.Omega.{arith}
 use lib.ListN.{length, getD}
-use Rattle.cells.specs.Stretches.{cellsFrom, written, length-written, get-below, get-above, get-in, get-off, get-on, cells-in}
-use Rattle.stack.specs.Stores.{headerSize, rowSize, rowAt, pairAt, pairNameAt, nameAt, foundFrom, opens, parentsTop, ancestorsTop, pairsTop, rowWord, children, oneMore, pairOf, known, timesOf, nameCountedRows, nameCountedNames, countedRows, countedNames, withRow, backTo, waits, heldKind, heldName, heldFound, heldRows, freshRows}
+use Rattle.cells.specs.Stretches.{written, length-written, get-below, get-above, get-in, get-off, get-on, cells-in}
+use Rattle.stack.specs.Stores.{headerSize, rowSize, rowAt, pairAt, pairNameAt, nameAt, foundFrom, opens, parentsTop, ancestorsTop, pairsTop, rowWord, children, oneMore, pairOf, known, timesOf, nameCountedRows, nameCountedNames, countedRows, withRow, backTo, heldName, heldFound, heldRows, freshRows}
 
 -- ---- a push: the new row and the header; rows below it, pairs and the rest of the header stay
 module _ (rows : List ℕ) (n k parents ancestors : ℕ) where

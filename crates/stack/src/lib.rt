@@ -1,7 +1,6 @@
 //! The stores of open elements: rows, names, id words, live nodes (stack.rs). Any stored number is read; none can trap.
 pub mod copies;
 pub mod counters;
-pub mod items;
 pub mod waiting;
 
 // The layout of specs/Stores.antt. Words of the header:

@@ -9,7 +9,7 @@ use crate::copies::copy32;
 use cells::at32;
 use cells::put32;
 ghost use mathlib.Core.Path.{_≡_};
-ghost use Prim.Native.Nat.{_<_, _≤_, _^_};
+ghost use Prim.Native.Nat.{_≤_};
 ghost use lib.ListN.{length, getD};
 ghost use Rattle.cells.specs.Stretches.{written};
 ghost use Rattle.stack.specs.Stores.{nameLimit, foundLimit, foundFrom, heldRows, heldName, heldFound, releasedRows, freshRows};

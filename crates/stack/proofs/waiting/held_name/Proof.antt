@@ -1,4 +1,4 @@
-use Rattle.stack.proofs.Pushes.{copied-law}
+use Rattle.stack.proofs.Waits.{copied-law}
 use borrow.Author.Needs.{needs}
 use Rattle.stack.proofs.waiting.held_name.Statement.{statement}
 use Rattle.stack.proofs.waiting.held_name.Tie as tie

@@ -1,4 +1,4 @@
-use Rattle.stack.proofs.Pushes.{hold-law}
+use Rattle.stack.proofs.Waits.{hold-law}
 use borrow.Author.Needs.{needs}
 use Rattle.stack.proofs.waiting.hold.Statement.{statement}
 use Rattle.stack.proofs.waiting.hold.Tie as tie
