@@ -139,13 +139,13 @@ module _ (rows : List ℕ) (x : List ℕ) (kind : ℕ) (found : List ℕ) (stage
 
 -- ---- a fresh machine: header and root row as listed; all else stays
 module _ (rows : List ℕ) (mark sheet flags : ℕ) where
-  abbrev fresh : List ℕ
-  fresh = 0 ∷ 0 ∷ 0 ∷ 0 ∷ 0 ∷ 0 ∷ 0 ∷ 0 ∷ 0 ∷ 0 ∷ 0 ∷ 0 ∷ mark ∷ sheet ∷ flags ∷ 0 ∷ 0 ∷ 0 ∷ 0 ∷ 0 ∷ 0 ∷ 0 ∷ 0 ∷ 0 ∷ []
+  abbrev fresh-words : List ℕ
+  fresh-words = 0 ∷ 0 ∷ 0 ∷ 0 ∷ 0 ∷ 0 ∷ 0 ∷ 0 ∷ 0 ∷ 0 ∷ 0 ∷ 0 ∷ mark ∷ sheet ∷ flags ∷ 0 ∷ 0 ∷ 0 ∷ 0 ∷ 0 ∷ 0 ∷ 0 ∷ 0 ∷ 0 ∷ []
 
   pub fresh-word : headerSize + rowSize ≤ length rows → (j : ℕ) → j < 24 → getD (freshRows rows mark sheet flags) (0 + j) 0 ≡ getD (0 ∷ 0 ∷ 0 ∷ 0 ∷ 0 ∷ 0 ∷ 0 ∷ 0 ∷ 0 ∷ 0 ∷ 0 ∷ 0 ∷ mark ∷ sheet ∷ flags ∷ 0 ∷ 0 ∷ 0 ∷ 0 ∷ 0 ∷ 0 ∷ 0 ∷ 0 ∷ 0 ∷ []) j 0
   unfolding freshRows
-  fresh-word room j h = get-in rows 0 fresh j h (omega arith)
+  fresh-word room j h = get-in rows 0 fresh-words j h (omega arith)
 
   pub fresh-length : length (freshRows rows mark sheet flags) ≡ length rows
   unfolding freshRows
-  fresh-length = length-written rows 0 fresh
+  fresh-length = length-written rows 0 fresh-words

@@ -282,3 +282,6 @@ freshRows rows mark sheet flags =
     written rows 0
     (0 ∷ 0 ∷ 0 ∷ 0 ∷ 0 ∷ 0 ∷ 0 ∷ 0 ∷ 0 ∷ 0 ∷ 0 ∷ 0 ∷ mark ∷ sheet ∷ flags ∷ 0 ∷
     0 ∷ 0 ∷ 0 ∷ 0 ∷ 0 ∷ 0 ∷ 0 ∷ 0 ∷ [])
+
+abbrev pub fresh : Stores → (mark sheet flags : ℕ) → Stores
+fresh s mark sheet flags = stores (freshRows (s .rows) mark sheet flags) (s .names) (s .ids) (s .nodes)
