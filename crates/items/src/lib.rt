@@ -219,7 +219,7 @@ pub fn count_popped(rows: &[u32], names: &[u8], name: &[u8]) -> usize
     at32(rows, OPENS) + 1 - p
 }
 
-// The pop of the n innermost: their ids go out, the outermost first, and the header is as it was before that one came.
+// The pop of the n innermost: their ids go out, the outermost first, and the header is as it was before that one came. That n are open, count_popped promises.
 pub fn pop_items(rows: &mut [u32], ids: &[u64], n: usize, out: &mut [u64])
     requires { ⌜ n ≤ opens (now rows) ⌝ }
     ensures { λ _. ⌜ (now (rows .exit) ≡ poppedRows (now (rows .entry)) n) × (now (out .exit) ≡ poppedIds (now (rows .entry)) (now (ids .entry)) (now (out .entry)) n) ⌝ }

@@ -94,6 +94,7 @@ pub fn inc(n: u32) -> u32
     n
 }
 
+// The pair of the name counts once more, or there is a new pair at the top.
 fn count_name(rows: &mut [u32], names: &mut [u8], name: &[u8])
     requires { ⌜ length (now name) ≤ nameLimit ⌝ }
     ensures { λ _. ⌜ (now (rows .exit) ≡ nameCountedRows (now (rows .entry)) (now (names .entry)) (now (name .entry))) × (now (names .exit) ≡ nameCountedNames (now (rows .entry)) (now (names .entry)) (now (name .entry))) ⌝ }

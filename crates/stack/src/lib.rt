@@ -1,4 +1,4 @@
-//! The stores of open elements: rows, names, id words, live nodes (stack.rs). Any stored number is read; none can trap.
+//! The stores of open elements (stack.rs): their layout, what is counted, the waiting record; push and pop are in `items`. No stored number can trap.
 pub mod copies;
 pub mod counters;
 pub mod waiting;
