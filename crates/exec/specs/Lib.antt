@@ -1,0 +1,6 @@
+pub mod Cursors
+pub mod CursorLaws
+pub mod Instructions
+pub mod Scans
+pub mod ScanLaws
+pub mod FoundIds
