@@ -5,17 +5,17 @@ use mathlib.Core.List.{List, [], _∷_, _++_, append-assoc}
 use Prim.Native.Nat.{ℕ, zero, suc, _+_, _-_, _*_, _<_, _≤_, _^_}
 use native.Mathlib.Omega.{arith}
 use native.Mathlib.Nat.{sub-zero}
-use borrow.Author.Tests.{lt-ltb, le-ltb, le-leb, lt-leb, leb-true, leb-false, eq-eqb, ne-eqb, ltb-true, ltb-false, eqb-true, eqb-false}
+use borrow.Author.Tests.{lt-ltb, le-ltb, le-leb, lt-leb, leb-true, eq-eqb, ne-eqb, ltb-true, ltb-false, eqb-true, eqb-false}
 use lib.Dec.{eqb, ltb, leb}
-use lib.ListN.{length, getD, take}
+use lib.ListN.{getD, take}
 use lib.Seq.{take-nil}
 use Rattle.exec.specs.declared.cursor.Cursor.{Cursor}
 use Rattle.exec.specs.declared.cursor.Ranges.{Ranges}
 use Rattle.exec.specs.declared.cursor.Jump.{Jump}
 use Rattle.exec.specs.declared.scan.Candidate.{Candidate}
-use Rattle.exec.specs.Cursors.{cursorOf, afterCursor, rangeAt, jumpOf, leftIn, ride, rides, later, rest, jumps}
-use Rattle.exec.specs.Instructions.{keyFits, firstKeyed}
-use Rattle.exec.specs.Scans.{affordable, fromKeyed, Reached}
+use Rattle.exec.specs.Cursors.{cursorOf, afterCursor, rangeAt, jumpOf, leftIn, ride, rides, later, rest}
+use Rattle.exec.specs.Instructions.{keyFits}
+use Rattle.exec.specs.Searching.{jumps, firstKeyed, affordable, fromKeyed, Reached}
 
 module _ (program nodes : List ℕ) (ranges : Ranges) where
   later-hop-0 : (stage slot : ℕ) → stage ≡ 0 → slot < ranges .«parents_top» → later program nodes ranges stage slot ≡ rest program nodes ranges (rangeAt program nodes 3 0 slot)

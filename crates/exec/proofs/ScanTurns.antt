@@ -11,10 +11,10 @@ use Rattle.rules.specs.Attributes.{Attribute}
 use Rattle.exec.specs.declared.cursor.Cursor.{Cursor}
 use Rattle.exec.specs.declared.cursor.Ranges.{Ranges}
 use Rattle.exec.specs.declared.scan.Candidate.{Candidate}
-use Rattle.exec.specs.declared.scan.Scanned.{Scanned}
 use Rattle.exec.specs.Cursors.{cursorOf, afterCursor, rest, ats}
 use Rattle.exec.specs.Instructions.{keyFits, tagTestsPass, tagPasses, attributePasses, asks}
-use Rattle.exec.specs.Scans.{keep, Sought, over, stopped, foundToo, seek, foundIn, answerFrom, tagScan, allPass, attributeScan, fromKeyed, Reached}
+use Rattle.exec.specs.Scans.{keep, Sought, over, stopped, foundToo, seek, foundIn, answerFrom, tagScan, allPass, attributeScan}
+use Rattle.exec.specs.Searching.{fromKeyed, Reached}
 
 -- ---- instructions whose key does not fit change nothing
 

@@ -1,17 +1,16 @@
 -- What the cursor goes through: the addresses of the first cursor, and each cursor of the list by itself.
-use mathlib.Core.Path.{_≡_, refl, sym, _∙_, ap, ap₂}
+use mathlib.Core.Path.{_≡_, refl, _∙_, ap, ap₂}
 use mathlib.Core.Bool.{Bool, true, false, cond}
-use mathlib.Core.List.{List, [], _∷_, _++_, map, flatMap, append-assoc}
-use Prim.Native.Nat.{ℕ, zero, suc, _+_, _-_, _*_, _<_, _≤_}
+use mathlib.Core.List.{List, [], _∷_, _++_, flatMap, append-assoc}
+use Prim.Native.Nat.{ℕ, zero, suc, _+_, _-_, _*_, _≤_}
 use native.Mathlib.Omega.{arith}
-use borrow.Author.Tests.{lt-ltb, le-ltb, le-leb, lt-leb, leb-true, eq-eqb, ne-eqb, ltb-true, ltb-false, eqb-true, eqb-false}
-use lib.Dec.{eqb, ltb, leb}
-use lib.ListN.{length, getD}
+use borrow.Author.Tests.{le-leb, leb-true}
+use lib.Dec.{leb}
+use lib.ListN.{getD}
 use Rattle.cells.specs.Stretches.{cellsFrom}
 use Rattle.exec.specs.declared.cursor.Cursor.{Cursor}
 use Rattle.exec.specs.declared.cursor.Ranges.{Ranges}
-use Rattle.exec.specs.declared.cursor.Jump.{Jump}
-use Rattle.exec.specs.Cursors.{cursorOf, rowWord, firstCursor, afterCursor, rangeAt, jumpOf, leftIn, ride, inRange, rides, later, rest, ats, span, hangs, jumps}
+use Rattle.exec.specs.Cursors.{rowWord, firstCursor, rangeAt, leftIn, ride, inRange, rides, later, rest, ats, span, hangs}
 
 -- ---- addresses
 

@@ -1,5 +1,5 @@
 -- The live instructions, as the cursors that stand on them (01, sections 3 and 9).
-use mathlib.Core.Bool.{Bool, true, false, cond}
+use mathlib.Core.Bool.{cond}
 use mathlib.Core.List.{List, [], _∷_, _++_, map}
 use Prim.Native.Nat.{ℕ, zero, suc, _+_, _-_, _*_}
 use lib.Dec.{eqb, ltb, leb}
@@ -80,10 +80,3 @@ span a (suc n) = a ∷ span (a + 1) n
 unfoldable pub hangs : List ℕ → ℕ → ℕ → ℕ → List ℕ
 hangs program limit w node =
     span (rowWord program node w) (leftIn limit (rowWord program node w) (rowWord program node w + getD program (node * 8 + w + 1) 0))
-
--- How many jumps are left at a cursor.
-unfoldable pub jumps : Ranges → Cursor → ℕ
-jumps ranges c =
-    cond (eqb (c .stage) 0)
-    (ranges .«parents_top» - c .slot + (ranges .«ancestors_top» - ranges .«ancestors_from») + 1)
-    (ranges .«ancestors_top» - c .slot)

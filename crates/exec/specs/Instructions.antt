@@ -1,5 +1,5 @@
 -- The tests of one instruction (program.rs): the row says where they stand in the sheet, the sheet's bytes say what they are (01, section 1).
-use mathlib.Core.Bool.{Bool, true, false, not, cond, _&&_}
+use mathlib.Core.Bool.{Bool, true, not, cond, _&&_}
 use mathlib.Core.List.{List}
 use Prim.Native.Nat.{ℕ, zero, suc, _+_, _/_, _%_}
 use lib.Dec.{eqb}
@@ -11,11 +11,6 @@ use Rattle.exec.specs.Cursors.{rowWord}
 -- An instruction has no name key, or the tag's.
 unfoldable pub keyFits : List ℕ → ℕ → ℕ → Bool
 keyFits program key a = cond (eqb (rowWord program a 7) 0) true (eqb (rowWord program a 7) key)
-
--- The first of n neighbouring instructions whose key fits, or the one after them.
-unfoldable pub firstKeyed : List ℕ → ℕ → ℕ → ℕ → ℕ
-firstKeyed program key a zero = a
-firstKeyed program key a (suc n) = cond (keyFits program key a) a (firstKeyed program key (a + 1) n)
 
 -- Where a test ends: its length counts what follows the length.
 abbrev pub testEnd : List ℕ → ℕ → ℕ

@@ -1,17 +1,14 @@
 -- Scans over the live instructions (01, section 4: when a tag waits, and what it matches).
-use mathlib.Core.Path.{_≡_}
 use mathlib.Core.Bool.{Bool, true, false, cond, _&&_}
 use mathlib.Core.List.{List, [], _∷_}
-use Prim.Native.Nat.{ℕ, _+_, _<_, _^_}
-use lib.Dec.{ltb}
+use Prim.Native.Nat.{ℕ, _+_}
 use lib.ListN.{length, take}
 use Rattle.rules.specs.Attributes.{Attribute}
 use Rattle.exec.specs.declared.cursor.Cursor.{Cursor}
 use Rattle.exec.specs.declared.cursor.Ranges.{Ranges}
-use Rattle.exec.specs.declared.scan.Candidate.{Candidate}
 use Rattle.exec.specs.declared.scan.Scanned.{Scanned}
-use Rattle.exec.specs.Cursors.{cursorOf, afterCursor, leftIn, rest, ats}
-use Rattle.exec.specs.Instructions.{keyFits, tagPasses, attributePasses, asks}
+use Rattle.exec.specs.Cursors.{cursorOf, rest, ats}
+use Rattle.exec.specs.Instructions.{tagPasses, attributePasses, asks}
 
 -- The members that pass a test, in their order.
 unfoldable pub keep : (ℕ → Bool) → List ℕ → List ℕ
@@ -57,19 +54,3 @@ allPass sheet program name key child ofType html attributes a =
 unfoldable pub attributeScan : (sheet program nodes : List ℕ) → Ranges → (name : List ℕ) → (key child ofType : ℕ) → Bool → List Attribute → Cursor → (budget : ℕ) → List ℕ
 attributeScan sheet program nodes ranges name key child ofType html attributes from budget =
     keep (allPass sheet program name key child ofType html attributes) (ats (take budget (rest program nodes ranges from)))
-
--- How many instructions of a range a budget allows.
-unfoldable pub affordable : (limit at stop budget : ℕ) → ℕ
-affordable limit at stop budget = cond (ltb budget (leftIn limit at stop)) budget (leftIn limit at stop)
-
--- The cursors from the first one on whose instruction's key fits.
-unfoldable pub fromKeyed : List ℕ → ℕ → List Cursor → List Cursor
-fromKeyed program key [] = []
-fromKeyed program key (c ∷ cs) = cond (keyFits program key (c .at)) (c ∷ cs) (fromKeyed program key cs)
-
--- A candidate stands on the first instruction whose key fits, and what comes after it is left; or there is none.
-unfoldable pub Reached : (program nodes : List ℕ) → Ranges → (key : ℕ) → Cursor → (budget : ℕ) → Candidate → Type 0
-Reached program nodes ranges key from budget Candidate.Over = fromKeyed program key (take budget (rest program nodes ranges from)) ≡ []
-Reached program nodes ranges key from budget (Candidate.At d left) =
-    (fromKeyed program key (take budget (rest program nodes ranges from)) ≡ d ∷ take left (rest program nodes ranges (afterCursor d)))
-    × ((keyFits program key (d .at) ≡ true) × ((d .at < 2 ^ 16) × (left < budget)))

@@ -12,8 +12,8 @@ ghost use Prim.Native.Nat.{_+_, _≤_, _^_, max};
 ghost use lib.ListN.{length};
 ghost use Rattle.cells.specs.Stretches.{written};
 ghost use Rattle.rules.specs.Attributes.{attributesOf};
-ghost use Rattle.exec.specs.Instructions.{firstKeyed};
-ghost use Rattle.exec.specs.Scans.{Reached, affordable, tagScan, answerFrom, foundIn, attributeScan};
+ghost use Rattle.exec.specs.Scans.{tagScan, answerFrom, foundIn, attributeScan};
+ghost use Rattle.exec.specs.Searching.{Reached, affordable, firstKeyed};
 
 // How many instructions matched, and whether one asks for attributes: the cursor stands on it, or is all 0.
 pub struct Scanned {

@@ -1,9 +1,9 @@
-use mathlib.Core.Path.{_≡_, refl, sym, ap, _∙_}
-use Prim.Native.Nat.{_+_, _-_, _*_, _≤_, _<_}
+use mathlib.Core.Path.{_≡_, refl, sym, _∙_}
+use Prim.Native.Nat.{_+_, _-_, _*_, _≤_}
 use native.Mathlib.Omega.{arith}
 use borrow.Author.Tests.{not-true, not-false}
 use Rattle.rules.specs.Attributes.{attributesOf}
-use Rattle.exec.specs.Instructions.{tagTestsHold, attributeTestsHold}
+use Rattle.exec.specs.Instructions.{attributeTestsHold}
 use Rattle.exec.proofs.TestTurns.{attributes-none, attributes-fail, attributes-more}
 use borrow.Author.Needs.{needs}
 use Rattle.exec.proofs.instruction.attribute_tests.Statement.{statement}

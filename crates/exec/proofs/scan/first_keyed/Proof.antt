@@ -1,7 +1,7 @@
-use mathlib.Core.Path.{_≡_, refl, sym, ap, _∙_}
-use Prim.Native.Nat.{_+_, _-_, _*_, _≤_, _<_}
+use mathlib.Core.Path.{_≡_, sym, _∙_}
+use Prim.Native.Nat.{_+_, _-_, _≤_}
 use native.Mathlib.Omega.{arith}
-use Rattle.exec.specs.Instructions.{firstKeyed}
+use Rattle.exec.specs.Searching.{firstKeyed}
 use Rattle.exec.proofs.Candidates.{first-none, first-here, first-later, fits-none, fits-same, fits-not}
 use borrow.Author.Needs.{needs}
 use Rattle.exec.proofs.scan.first_keyed.Statement.{statement}

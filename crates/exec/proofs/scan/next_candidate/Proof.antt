@@ -1,7 +1,7 @@
-use mathlib.Core.Path.{_≡_, refl, sym, ap, _∙_}
-use Prim.Native.Nat.{_+_, _-_, _*_, _≤_, _<_}
+use mathlib.Core.Path.{refl, sym, _∙_}
+use Prim.Native.Nat.{_-_, _≤_}
 use native.Mathlib.Omega.{arith}
-use Rattle.exec.specs.Cursors.{jumps}
+use Rattle.exec.specs.Searching.{jumps}
 use Rattle.exec.proofs.Candidates.{SameLeft, nothing-left, jumped, jumped-to, jumped-over, reached-here}
 use borrow.Author.Needs.{needs}
 use Rattle.exec.proofs.scan.next_candidate.Statement.{statement}

@@ -1,11 +1,12 @@
-use mathlib.Core.Path.{_≡_, refl, sym, ap, _∙_}
+use mathlib.Core.Path.{_≡_, refl}
 use mathlib.Core.List.{[]}
-use Prim.Native.Nat.{_+_, _-_, _*_, _≤_, _<_}
+use Prim.Native.Nat.{_+_, _-_, _≤_}
 use native.Mathlib.Omega.{arith}
 use lib.ListN.{length, take}
 use Rattle.rules.specs.Attributes.{attributesOf}
 use Rattle.exec.specs.Cursors.{rest}
-use Rattle.exec.specs.Scans.{fromKeyed, attributeScan}
+use Rattle.exec.specs.Scans.{attributeScan}
+use Rattle.exec.specs.Searching.{fromKeyed}
 use Rattle.exec.proofs.ScanTurns.{At, reached-at, reached-over, Adding, adds-none, adds-one, adds-up, all-over, all-find, tag-refuses, attributes-refuse}
 use borrow.Author.Needs.{needs}
 use Rattle.exec.proofs.scan.scan_attributes.Statement.{statement}

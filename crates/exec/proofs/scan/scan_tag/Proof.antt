@@ -1,10 +1,11 @@
-use mathlib.Core.Path.{_≡_, refl, sym, ap, _∙_}
+use mathlib.Core.Path.{_≡_, refl}
 use mathlib.Core.List.{[]}
-use Prim.Native.Nat.{_+_, _-_, _*_, _≤_, _<_}
+use Prim.Native.Nat.{_+_, _-_, _≤_}
 use native.Mathlib.Omega.{arith}
 use lib.ListN.{length, take}
 use Rattle.exec.specs.Cursors.{rest}
-use Rattle.exec.specs.Scans.{fromKeyed, tagScan}
+use Rattle.exec.specs.Scans.{tagScan}
+use Rattle.exec.specs.Searching.{fromKeyed}
 use Rattle.exec.proofs.ScanTurns.{At, reached-at, reached-over, Going, goes-on, goes-found, goes-out, goes-stuck, tag-over, tag-fails, tag-stops, tag-finds}
 use borrow.Author.Needs.{needs}
 use Rattle.exec.proofs.scan.scan_tag.Statement.{statement}

@@ -1,6 +1,5 @@
 use mathlib.Core.Path.{refl}
 use Rattle.exec.specs.Cursors.{firstCursor}
-use borrow.Author.Needs.{needs}
 use Rattle.exec.proofs.cursor.Cursor.first.Statement.{statement}
 use Rattle.exec.proofs.cursor.Cursor.first.Tie as tie
 use Rattle.exec.proofs.cursor.Cursor.first.Reads as reads
