@@ -30,6 +30,14 @@ ats-rides program nodes limit w stage slot (suc n) =
     ats-cat (inRange limit (rangeAt program nodes w stage slot)) (rides program nodes limit w stage (slot + 1) n)
     ∙ ap₂ (λ (x y : List ℕ). x ++ y) (ats-ride stage (slot + 1) _ _ _) (ats-rides program nodes limit w stage (slot + 1) n)
 
+-- A range that ends within the limit is followed whole.
+pub hangs-whole : (program : List ℕ) (limit w node : ℕ) → rowWord program node w + getD program (node * 8 + w + 1) 0 ≤ limit
+    → hangs program limit w node ≡ span (rowWord program node w) (getD program (node * 8 + w + 1) 0)
+unfolding hangs leftIn
+hangs-whole program limit w node h =
+    let z : rowWord program node w + getD program (node * 8 + w + 1) 0 - rowWord program node w ≡ getD program (node * 8 + w + 1) 0 = omega arith in
+    rw (le-leb _ _ h, z)
+
 module _ (program nodes : List ℕ) (ranges : Ranges) where
   -- The addresses from the first cursor on: roots, child ranges of the parents, descendant ranges of the ancestors.
   pub ats-first : (slot roots : ℕ) → roots ≤ ranges .limit

@@ -79,3 +79,8 @@ gathered-law sheet program words [] = refl
 gathered-law sheet program words (a ∷ found) =
     gathered-law sheet program (withIds words (idsOfNode sheet program a)) found
     ∙ sym (with-cat words (idsOfNode sheet program a) (flatMap (idsOfNode sheet program) found))
+
+-- The members of what is gathered: those of the set before, and the ids that the record of some found instruction lists, as far as the words reach.
+pub gathered-members : (sheet program words found : List ℕ) (i : ℕ) → i < length words * 64
+    → hasId (withIdsOf sheet program words found) i ≡ (hasId words i || listed i (flatMap (idsOfNode sheet program) found))
+gathered-members sheet program words found i h = rw (gathered-law sheet program words found) (with-ids-law words (flatMap (idsOfNode sheet program) found) i h)
