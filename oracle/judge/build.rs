@@ -31,11 +31,12 @@ const UNCHANGED: [&str; 19] = [
     "selectors_vm/stack.rs",
 ];
 
-const STAND_INS: [&str; 4] = [
+const STAND_INS: [&str; 5] = [
     "base/debug_trace.rs",
     "memory/mod.rs",
     "selectors_vm/error.rs",
     "selectors_vm/parser.rs",
+    "selectors_vm/tests.rs",
 ];
 
 fn link(from: &Path, to: &Path) {

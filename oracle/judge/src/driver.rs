@@ -5,8 +5,9 @@ use crate::html::{LocalName, LocalNameHash, Namespace};
 use crate::memory::SharedMemoryLimiter;
 use crate::parser::{AttributeBuffer, AttributeOutline};
 use crate::selectors_vm::{
-    Ast, AstNode, AttributeComparisonExpr, AuxStartTagInfoRequest, DenseHashSet, ElementData, Expr,
-    MatchInfo, NthChild, OnAttributesExpr, OnTagNameExpr, Predicate, SelectorMatchingVm, VmError,
+    Ast, AstNode, AttributeComparisonExpr, AuxStartTagInfoRequest, Compiler, DenseHashSet,
+    ElementData, Expr, MatchInfo, NthChild, OnAttributesExpr, OnTagNameExpr, Predicate,
+    SelectorMatchingVm, VmError,
 };
 use crate::transform_stream::AuxStartTagInfo;
 use encoding_rs::X_USER_DEFINED;
@@ -53,13 +54,9 @@ pub struct Judge {
 
 impl Judge {
     pub fn new(sheet: &Sheet, esi: bool) -> Self {
-        let ast = Ast {
-            root: sheet.roots.iter().map(node).collect(),
-            cumulative_node_count: sheet.node_count(),
-        };
         let limiter = SharedMemoryLimiter::new(usize::MAX);
         Self {
-            vm: SelectorMatchingVm::new(ast, X_USER_DEFINED, limiter, esi),
+            vm: SelectorMatchingVm::new(ast(sheet), X_USER_DEFINED, limiter, esi),
             waiting: None,
         }
     }
@@ -144,6 +141,30 @@ impl Machine for Judge {
     }
 }
 
+/// An instruction as lol_html's compiler places it: its ids, and the addresses of its child and descendant blocks.
+#[derive(Clone, Debug, Eq, PartialEq)]
+pub struct Instruction {
+    pub ids: Ids,
+    pub children: Option<Block>,
+    pub descendants: Option<Block>,
+}
+
+/// Addresses from one up to another, which is not among them.
+pub type Block = std::ops::Range<usize>;
+
+/// The sheet compiled by lol_html, in the order of addresses.
+pub fn compiled(sheet: &Sheet) -> Vec<Instruction> {
+    let program = Compiler::new(X_USER_DEFINED).compile(ast(sheet));
+    let branches = program.instructions.iter().map(|i| &i.associated_branch);
+    branches
+        .map(|branch| Instruction {
+            ids: set(&branch.matched_ids),
+            children: branch.jumps.clone(),
+            descendants: branch.hereditary_jumps.clone(),
+        })
+        .collect()
+}
+
 /// lol_html's answer to one nth test.
 pub fn nth_holds(nth: Nth, index: i32) -> bool {
     NthChild::new(nth.step, nth.offset).has_index(index)
@@ -184,6 +205,13 @@ fn text(bytes: &[u8]) -> Box<str> {
 /// Text that has no bytes in x-user-defined.
 fn unencodable() -> Box<str> {
     "\u{e9}".into()
+}
+
+fn ast(sheet: &Sheet) -> Ast {
+    Ast {
+        root: sheet.roots.iter().map(node).collect(),
+        cumulative_node_count: sheet.node_count(),
+    }
 }
 
 fn node(node: &Node) -> AstNode {

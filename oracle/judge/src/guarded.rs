@@ -12,8 +12,12 @@ pub struct Guarded {
 
 impl Guarded {
     pub fn new(sheet: &Sheet, esi: bool) -> Self {
+        let rules = Rules {
+            esi,
+            ..Rules::default()
+        };
         Self {
-            model: Model::with(sheet, Rules { fault: None, esi }),
+            model: Model::with(sheet, rules),
             judge: Judge::new(sheet, esi),
         }
     }

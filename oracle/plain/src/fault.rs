@@ -61,17 +61,4 @@ faults! {
     DashIsPrefix: "dash holds for every value that begins so",
     SubstringFirstOnly: "substring tries the first place where its first byte stands only",
     NegationIgnored: "a negated unmatchable or unencodable test stays false",
-    // What the Rust itself does where 01 says otherwise: E10.
-    RustNth: "nth at the ends of i32 as in the Rust",
-    RustNames: "names with a leading digit 1 as in the Rust",
-}
-
-impl Fault {
-    /// The wrong machines that a generator must find out about: all but the Rust's own two.
-    pub fn wrong() -> impl Iterator<Item = Self> {
-        Self::ALL
-            .iter()
-            .copied()
-            .filter(|fault| !matches!(fault, Self::RustNth | Self::RustNames))
-    }
 }

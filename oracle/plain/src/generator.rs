@@ -172,7 +172,9 @@ struct Style {
     records: usize,
     depth: usize,
     foreign: usize,
+    void: usize,
     attribute_tests: usize,
+    negated: usize,
     nth: usize,
 }
 
@@ -213,22 +215,41 @@ impl Style {
         values.push(b"a".to_vec());
         let deep = match family {
             Family::Limits => 300,
-            _ => *random.pick(&[2, 3, 4, 6, 6, 12, 12, 40, 40, 240]),
+            // As in the Rust, other elements are open: both must stay clear of the limits.
+            Family::E10Nth | Family::E10Names => *random.pick(&[2, 4, 6, 12, 40]),
+            Family::Good => *random.pick(&[2, 3, 4, 6, 6, 12, 12, 40, 40, 240]),
         };
         Self {
             names,
             attributes: some(random, attribute_count, &ATTRIBUTES),
             values,
-            nodes: *random.pick(&[1, 2, 3, 4, 6, 8, 12, 20, 40, 120]),
+            nodes: match family {
+                Family::Limits => *random.pick(&[2, 12, 60, 120]),
+                _ => *random.pick(&[1, 2, 3, 4, 6, 8, 12, 20, 40, 120]),
+            },
             branching: *random.pick(&[30, 50, 80]),
-            records: 20 + random.below(60) + 2 * deep,
+            records: match family {
+                Family::Limits => 1_000,
+                _ => 20 + random.below(60) + 2 * deep,
+            },
             depth: deep,
             foreign: match family {
                 Family::Limits => *random.pick(&[0, 0, 5]),
                 _ => *random.pick(&[0, 5, 20, 50, 90]),
             },
-            attribute_tests: *random.pick(&[0, 20, 50, 80]),
-            nth: *random.pick(&[0, 10, 40]),
+            void: match family {
+                Family::Limits => *random.pick(&[4, 60]),
+                _ => 4,
+            },
+            attribute_tests: match family {
+                Family::Limits => *random.pick(&[0, 0, 20]),
+                _ => *random.pick(&[0, 20, 50, 80]),
+            },
+            negated: if family == Family::Limits { 3 } else { 20 },
+            nth: match family {
+                Family::Limits => *random.pick(&[3, 40]),
+                _ => *random.pick(&[0, 10, 40]),
+            },
         }
     }
 }
@@ -281,7 +302,7 @@ impl Generator {
         let mut node = Node::default();
         let wanted = *self.random.pick(&[1, 1, 1, 2, 2, 3]);
         for _ in 0..wanted {
-            let negated = self.random.chance(20);
+            let negated = self.random.chance(self.style.negated);
             if self.random.chance(self.style.attribute_tests) {
                 let kind = self.attribute_test();
                 node.attribute_tests.push(Test { negated, kind });
@@ -429,11 +450,12 @@ impl Generator {
             _ if foreign => 1 + self.random.below(2) as u8,
             _ => 0,
         };
+        let void = self.random.chance(self.style.void);
         let name = match self.random.below(100) {
             0 => Vec::new(),
             1 => vec![b'n'; 64 + self.random.below(3)],
-            2..6 => self.random.pick(&VOID).to_vec(),
-            6 => b"esi:include".to_vec(),
+            2 => b"esi:include".to_vec(),
+            _ if void => self.random.pick(&VOID).to_vec(),
             _ => self.name(),
         };
         Record::Start { namespace, name }

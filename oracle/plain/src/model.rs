@@ -95,7 +95,7 @@ impl Model {
     pub fn with_fault(sheet: &Sheet, fault: Fault) -> Self {
         let rules = Rules {
             fault: Some(fault),
-            esi: false,
+            ..Rules::default()
         };
         Self::with(sheet, rules)
     }
@@ -241,10 +241,10 @@ impl Model {
                     && self.attribute_tests_hold(entry, tag, attributes)
             })
             .collect();
-        if self.rules.has(Fault::ResumeOneLate) {
-            if let Some(skipped) = self.node_after_wait(tag) {
-                matched[skipped] = false;
-            }
+        if self.rules.has(Fault::ResumeOneLate)
+            && let Some(skipped) = self.node_after_wait(tag)
+        {
+            matched[skipped] = false;
         }
         matched
     }
@@ -411,7 +411,7 @@ impl Machine for Model {
         };
         let length = attributes.input.len();
         let fours = attributes.outlines.chunks_exact(4);
-        if attributes.outlines.len() % 4 != 0
+        if !attributes.outlines.len().is_multiple_of(4)
             || fours.len() > MAX_OUTLINES
             || length > MAX_INPUT
             || fours
@@ -424,7 +424,8 @@ impl Machine for Model {
             tag.index += 1;
         }
         let obeys_mark = tag.namespace != HTML || self.rules.has(Fault::HtmlSelfClosingObeyed);
-        let content = !self.is_void(&tag) && !(obeys_mark && self_closing);
+        let is_closed = obeys_mark && self_closing;
+        let content = !self.is_void(&tag) && !is_closed;
         let answer = self.finish(tag, content, attributes);
         if !matches!(answer, Answer::Refused(_)) {
             self.waiting = None;

@@ -12,11 +12,21 @@ const VOID_NAMES: [&str; 17] = [
 ];
 const ESI_NAMES: [&str; 2] = ["esi:include", "esi:comment"];
 
-/// The rules in force: the right ones, or these with one fault.
+/// The rules in force: the right ones, or these with a fault or as the Rust has them.
 #[derive(Clone, Copy, Debug, Default)]
 pub struct Rules {
-    pub fault: Option<Fault>,
     pub esi: bool,
+    pub fault: Option<Fault>,
+    pub e10: E10,
+}
+
+/// Where the Rust does not do what 01 says: each set means as in the Rust.
+#[derive(Clone, Copy, Debug, Default, Eq, PartialEq)]
+pub struct E10 {
+    /// Index less offset is taken modulo 2^32 into i32.
+    pub nth: bool,
+    /// Leading digits 1 of a name that fits the hash are not seen.
+    pub names: bool,
 }
 
 impl Rules {
@@ -29,7 +39,7 @@ impl Rules {
         if self.has(Fault::NameCaseKept) {
             return a == b;
         }
-        if self.has(Fault::RustNames) && fits_hash(a) && fits_hash(b) {
+        if self.e10.names && fits_hash(a) && fits_hash(b) {
             return without_ones(a).eq_ignore_ascii_case(without_ones(b));
         }
         a.eq_ignore_ascii_case(b)
@@ -51,7 +61,7 @@ impl Rules {
             return difference == 0 || self.has(Fault::NthStepZeroAlways) && difference > 0;
         }
         let divides = |difference: i64| difference % step == 0;
-        if self.has(Fault::RustNth) && difference >= 1 << 31 {
+        if self.e10.nth && difference >= 1 << 31 {
             return step < 0 && divides(difference - (1 << 32));
         }
         divides(difference) && (difference / step >= 0 || self.has(Fault::NthSign))

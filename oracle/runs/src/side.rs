@@ -2,6 +2,7 @@
 
 use judge::{Guarded, Judge};
 use plain::program::{Lines, run};
+use plain::rules::{E10, Rules};
 use plain::{Fault, Model};
 use std::io::Write;
 use std::path::PathBuf;
@@ -14,6 +15,8 @@ pub enum Side {
     Guarded,
     Plain,
     Wrong(Fault),
+    /// The plain model with some of E10 as in the Rust.
+    LikeRust(E10),
     /// A program of section 8; it knows nothing of id sets.
     Program(PathBuf),
 }
@@ -25,6 +28,7 @@ impl Side {
             Self::Guarded => "the Rust behind the plain model's refusals".to_owned(),
             Self::Plain => "the plain model".to_owned(),
             Self::Wrong(fault) => format!("a model in which {}", fault.words()),
+            Self::LikeRust(e10) => format!("the plain model with {e10:?}"),
             Self::Program(path) => path.display().to_string(),
         }
     }
@@ -36,6 +40,13 @@ impl Side {
             Self::Guarded => run(input, lines, |sheet| Guarded::new(sheet, false)),
             Self::Plain => run(input, lines, Model::new),
             Self::Wrong(fault) => run(input, lines, |sheet| Model::with_fault(sheet, *fault)),
+            Self::LikeRust(e10) => {
+                let rules = Rules {
+                    e10: *e10,
+                    ..Rules::default()
+                };
+                run(input, lines, |sheet| Model::with(sheet, rules))
+            }
             Self::Program(path) => run_program(path, input),
         }
     }

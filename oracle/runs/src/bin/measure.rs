@@ -17,7 +17,7 @@ fn main() {
         .collect();
     let mut missed = 0;
     println!("cases until caught: by the program's lines, by these and the id sets");
-    for fault in Fault::wrong() {
+    for &fault in Fault::ALL {
         let [program, ids] = [Lines::Program, Lines::WithIdSets].map(|lines| {
             let caught = inputs.iter().position(|input| {
                 Side::Plain.answer(input, lines) != Side::Wrong(fault).answer(input, lines)
@@ -31,7 +31,7 @@ fn main() {
         });
         println!("{program:>6} {ids:>6}  {}", fault.words());
     }
-    let all = Fault::wrong().count();
+    let all = Fault::ALL.len();
     println!(
         "{} of {all} wrong models caught within {most} cases",
         all - missed
