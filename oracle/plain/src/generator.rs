@@ -213,6 +213,9 @@ impl Style {
         let (value_count, attribute_count) = (2 + random.below(4), 1 + random.below(3));
         let mut values = some(random, value_count, &VALUES);
         values.push(b"a".to_vec());
+        if random.chance(30) {
+            values.push(Vec::new());
+        }
         let deep = match family {
             Family::Limits => 300,
             // As in the Rust, other elements are open: both must stay clear of the limits.
@@ -359,9 +362,9 @@ impl Generator {
     fn attribute_test(&mut self) -> AttributeTest {
         match self.random.below(20) {
             0..2 => AttributeTest::Id(self.value()),
-            2..5 => AttributeTest::Class(self.value()),
-            5..8 => AttributeTest::Exists(self.attribute_name()),
-            8 => AttributeTest::Unencodable,
+            2..4 => AttributeTest::Class(self.value()),
+            4..6 => AttributeTest::Exists(self.attribute_name()),
+            6..8 => AttributeTest::Unencodable,
             _ => AttributeTest::Comparison(Comparison {
                 operator: *self.random.pick(&Operator::ALL),
                 case: self.random.below(4) as u8,

@@ -8,6 +8,7 @@ pub mod program;
 pub mod random;
 pub mod rules;
 pub mod sheet;
+mod show;
 pub mod shrink;
 pub mod trace;
 

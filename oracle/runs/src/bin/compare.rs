@@ -90,8 +90,8 @@ fn show_difference(number: u64, case: Case, family: Family, sides: [&Side; 2], l
         input.len(),
         hex::write(&input)
     );
-    println!("{small:#?}");
+    print!("{small}");
     for side in sides {
-        println!("{}:\n{}", side.name(), side.answer(&input, lines));
+        print!("{}:\n{}", side.name(), side.answer(&input, lines));
     }
 }
