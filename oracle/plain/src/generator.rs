@@ -228,7 +228,7 @@ impl Style {
             values,
             nodes: match family {
                 Family::Limits => *random.pick(&[2, 12, 60, 120]),
-                _ => *random.pick(&[1, 2, 3, 4, 6, 8, 12, 20, 40, 120]),
+                _ => *random.pick(&[0, 1, 2, 3, 4, 6, 8, 12, 20, 20, 40, 120]),
             },
             branching: *random.pick(&[30, 50, 80]),
             records: match family {
@@ -515,6 +515,7 @@ impl Generator {
         let mut operand = self.with_swaps(operand, 35);
         let space = self.random.pick(&SPACES).to_vec();
         match self.random.below(12) {
+            _ if self.random.chance(1) => [self.value().repeat(200), operand].concat(),
             0..4 => operand,
             4 => [operand, b"-x".to_vec()].concat(),
             5 => [operand, self.value()].concat(),

@@ -1,5 +1,7 @@
 //! As much of JSON as the vectors' files use: no fractions, and of escapes in text only the short ones.
 
+use std::fmt::{self, Display, Formatter, Write};
+
 #[derive(Clone, Debug, Eq, PartialEq)]
 pub enum Json {
     Null,
@@ -50,6 +52,52 @@ impl Json {
             _ => None,
         }
     }
+}
+
+impl Display for Json {
+    fn fmt(&self, f: &mut Formatter<'_>) -> fmt::Result {
+        match self {
+            Self::Null => write!(f, "null"),
+            Self::Flag(flag) => write!(f, "{flag}"),
+            Self::Number(number) => write!(f, "{number}"),
+            Self::Text(text) => write_text(f, text),
+            Self::List(items) => write_items(f, ['[', ']'], items, |f, item| write!(f, "{item}")),
+            Self::Fields(fields) => write_items(f, ['{', '}'], fields, |f, (name, value)| {
+                write_text(f, name)?;
+                write!(f, ": {value}")
+            }),
+        }
+    }
+}
+
+fn write_text(f: &mut Formatter<'_>, text: &str) -> fmt::Result {
+    f.write_char('"')?;
+    for c in text.chars() {
+        match c {
+            '\n' => f.write_str("\\n")?,
+            '\t' => f.write_str("\\t")?,
+            '\r' => f.write_str("\\r")?,
+            '"' | '\\' => write!(f, "\\{c}")?,
+            _ => f.write_char(c)?,
+        }
+    }
+    f.write_char('"')
+}
+
+fn write_items<T>(
+    f: &mut Formatter<'_>,
+    [open, close]: [char; 2],
+    items: &[T],
+    item: impl Fn(&mut Formatter<'_>, &T) -> fmt::Result,
+) -> fmt::Result {
+    f.write_char(open)?;
+    for (at, each) in items.iter().enumerate() {
+        if at > 0 {
+            f.write_str(", ")?;
+        }
+        item(f, each)?;
+    }
+    f.write_char(close)
 }
 
 /// Takes `start` off the front, white space before it.
@@ -141,6 +189,12 @@ mod tests {
         assert_eq!(numbers, [1, -2, 1]);
         assert_eq!(case.field("c"), Some(&Json::Fields(Vec::new())));
         assert_eq!(case.field("d"), None);
+    }
+
+    #[test]
+    fn what_is_written_is_as_the_vectors_have_it() {
+        let text = r#"{"a": "x\n\"\\", "b": [1, -2, true, []], "c": {}, "d": null}"#;
+        assert_eq!(Json::read(text).unwrap().to_string(), text);
     }
 
     #[test]

@@ -4,6 +4,7 @@ pub mod arguments;
 pub mod figures;
 pub mod hex;
 pub mod json;
+pub mod library;
 pub mod side;
 
 pub use crate::figures::Figures;

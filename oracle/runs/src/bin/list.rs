@@ -1,31 +1,58 @@
 //! A fixed list of the Rust's answers to random cases, in the form of the outside vectors.
 
+use judge::Guarded;
 use plain::Case;
 use plain::generator::Family;
 use plain::program::Lines;
 use runs::arguments::Arguments;
-use runs::{Side, hex};
+use runs::library::random_run;
+use runs::{Json, Side, hex};
 
-const USAGE: &str = "list CASES [--family good|limits] [--from NUMBER]";
+const USAGE: &str = "list CASES [--family good|limits] [--from NUMBER] [--library]";
 
 fn main() {
-    let arguments = Arguments::read(USAGE, &["--family", "--from"], &[]);
+    let arguments = Arguments::read(USAGE, &["--family", "--from"], &["--library"]);
     let Some(count) = arguments.word(0) else {
         arguments.fail();
     };
     let count = arguments.number(Some(count), 0);
     let from = arguments.number(arguments.option("--from"), 1);
-    let (family, side) = match arguments.family() {
+    let (words, side) = match arguments.family() {
         Family::Good => ("good", Side::Rust),
         Family::Limits => ("limits", Side::Guarded),
         Family::E10Nth | Family::E10Names => arguments.fail(),
     };
     for number in from..from + count {
-        let input = Case::random(number, arguments.family()).bytes();
-        let output = side.answer(&input, Lines::Program).replace('\n', "\\n");
-        let input = hex::write(&input);
-        println!(
-            r#"{{"family": "oracle", "note": "{family} {number}", "in": "{input}", "out": "{output}"}}"#
-        );
+        if arguments.option("--library").is_some() {
+            println!("{}", library_run(number));
+        } else {
+            let input = Case::random(number, arguments.family()).bytes();
+            println!(
+                "{}",
+                program_case(&format!("{words} {number}"), &side, &input)
+            );
+        }
     }
+}
+
+fn program_case(note: &str, side: &Side, input: &[u8]) -> Json {
+    let fields = [
+        ("family", "oracle".to_owned()),
+        ("note", note.to_owned()),
+        ("in", hex::write(input)),
+        ("out", side.answer(input, Lines::Program)),
+    ];
+    let fields = fields.map(|(name, text)| (name.to_owned(), Json::Text(text)));
+    Json::Fields(fields.to_vec())
+}
+
+fn library_run(number: u64) -> Json {
+    let mut machine = None;
+    let calls = random_run(number).into_iter().map(|call| {
+        let answer = call.answer(&mut machine, |sheet, esi| {
+            Box::new(Guarded::new(sheet, esi))
+        });
+        call.write(answer.expect("the first call makes the machine"))
+    });
+    Json::List(calls.collect())
 }

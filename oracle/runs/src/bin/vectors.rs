@@ -1,12 +1,13 @@
 //! The outside vectors through both judges: what agrees, what is left out and why.
 
 use judge::Guarded;
-use plain::machine::listed;
+use plain::Model;
 use plain::program::Lines;
 use plain::rules::{E10, Rules};
-use plain::{Answer, Machine, Model, Outlined, Refusal, Sheet};
 use runs::arguments::Arguments;
+use runs::library::{Call, Make};
 use runs::{Json, Side, hex};
+use std::collections::BTreeMap;
 use std::fs::read_to_string;
 use std::path::Path;
 use std::process::exit;
@@ -26,9 +27,16 @@ fn main() {
     let library = read_lines(&folder.join("library.jsonl"));
     let mut wrong = program_by_plain(&program);
     wrong += program_by_rust(&program);
-    for (name, rust) in [("the plain model", false), ("the Rust", true)] {
-        wrong += library_runs(&library, name, rust);
-    }
+    wrong += library_runs(&library, "the plain model", |sheet, esi| {
+        let rules = Rules {
+            esi,
+            ..Rules::default()
+        };
+        Box::new(Model::with(sheet, rules))
+    });
+    wrong += library_runs(&library, "the Rust", |sheet, esi| {
+        Box::new(Guarded::new(sheet, esi))
+    });
     exit(i32::from(wrong > 0));
 }
 
@@ -78,8 +86,24 @@ fn program_by_plain(cases: &[Json]) -> usize {
     wrong
 }
 
+/// How many cases of each family.
+#[derive(Default)]
+struct Tally(BTreeMap<String, usize>);
+
+impl Tally {
+    fn add(&mut self, family: &str) {
+        *self.0.entry(family.to_owned()).or_default() += 1;
+    }
+
+    fn show(&self, words: &str) {
+        let families: String = self.0.iter().map(|(f, n)| format!(" {f} {n}")).collect();
+        println!("  {:>3} {words}:{families}", self.0.values().sum::<usize>());
+    }
+}
+
 fn program_by_rust(cases: &[Json]) -> usize {
-    let (mut alone, mut guarded, mut bad_sheets, mut e10, mut wrong) = (0, 0, 0, 0, 0);
+    let [mut alone, mut guarded, mut e10, mut bad_sheets] = [(); 4].map(|()| Tally::default());
+    let mut wrong = 0;
     for case in cases {
         let Vector {
             family,
@@ -88,35 +112,34 @@ fn program_by_rust(cases: &[Json]) -> usize {
             output,
         } = Vector::read(case);
         if output.starts_with("sheet refused") {
-            bad_sheets += 1;
+            bad_sheets.add(&family);
             continue;
         }
         let meets_limit = output.lines().any(|line| LIMITS.contains(&line));
-        let side = if meets_limit {
-            Side::Guarded
+        let (side, agree) = if meets_limit {
+            (Side::Guarded, &mut guarded)
         } else {
-            Side::Rust
+            (Side::Rust, &mut alone)
         };
         let found = side.answer(&input, Lines::Program);
         if found == output {
-            *(if meets_limit {
-                &mut guarded
-            } else {
-                &mut alone
-            }) += 1;
+            agree.add(&family);
         } else if let Some(words) = by_e10(&input, &found) {
-            e10 += 1;
-            println!("E10 ({words}): {family}, {note}");
+            e10.add(&family);
+            println!("E10, {words}: {family}, {note}");
         } else {
             wrong += 1;
             println!("DIFFERS from the Rust: {family}, {note}");
         }
     }
     println!(
-        "program.jsonl, the Rust: {alone} cases agree; {guarded} more agree with refusals 26 to 28 \
-         given by the plain model; {e10} differ by E10; {wrong} differ otherwise; \
-         {bad_sheets} left out: bad sheets never reach the Rust"
+        "program.jsonl, the Rust: {wrong} of {} cases differ beyond E10",
+        cases.len()
     );
+    alone.show("agree");
+    guarded.show("agree, refusals 26 to 28 given by the plain model");
+    e10.show("differ by E10, as stated");
+    bad_sheets.show("left out, because a bad sheet never reaches the Rust");
     wrong
 }
 
@@ -134,18 +157,18 @@ fn by_e10(input: &[u8], found: &str) -> Option<&'static str> {
     parts.into_iter().find(explains).map(|(_, _, words)| words)
 }
 
-/// Replays the library runs; a machine that was not made takes no calls.
-fn library_runs(runs: &[Json], name: &str, rust: bool) -> usize {
+/// Replays the library runs.
+fn library_runs(runs: &[Json], name: &str, make: Make) -> usize {
     let (mut calls, mut wrong) = (0, 0);
     for (at, run) in runs.iter().enumerate() {
-        let mut machine: Option<Box<dyn Machine>> = None;
-        for call in run.list().expect("a list of calls") {
-            let expected = call.field("answer").expect("an answer");
-            let found = library_call(&mut machine, call, rust);
+        let mut machine = None;
+        for line in run.list().expect("a list of calls") {
+            let call = Call::read(line).expect("a call");
+            let found = call.answer(&mut machine, make);
             calls += 1;
-            if found.as_ref() != Some(expected) {
+            if found.as_ref() != line.field("answer") {
                 wrong += 1;
-                println!("DIFFERS from {name}: run {at}, {call:?}, found {found:?}");
+                println!("DIFFERS from {name}: run {at}, {line}");
             }
         }
     }
@@ -155,87 +178,4 @@ fn library_runs(runs: &[Json], name: &str, rust: bool) -> usize {
         runs.len()
     );
     wrong
-}
-
-fn number(of: usize) -> Json {
-    Json::Number(of as i64)
-}
-
-fn word(of: &str) -> Json {
-    Json::Text(of.to_owned())
-}
-
-fn id_list(ids: u128) -> Json {
-    Json::List(listed(ids).map(|id| Json::Number(i64::from(id))).collect())
-}
-
-fn spelled(answer: Answer) -> Json {
-    Json::List(match answer {
-        Answer::Match { ids, content } => vec![word("match"), id_list(ids), Json::Flag(content)],
-        Answer::Attributes => vec![word("attrs")],
-        Answer::Popped(popped) => {
-            let sets = popped.into_iter().map(id_list).collect();
-            vec![word("pop"), Json::List(sets)]
-        }
-        Answer::Refused(refusal) => vec![word("refused"), number(usize::from(refusal))],
-    })
-}
-
-fn library_call(machine: &mut Option<Box<dyn Machine>>, call: &Json, rust: bool) -> Option<Json> {
-    let bytes = |name| hex::read(call.field(name)?.text()?);
-    let size = |name| usize::try_from(call.field(name)?.number()?).ok();
-    let kind = call.field("call")?.text()?;
-    if kind == "make" {
-        let store = size("store")?;
-        let esi = size("esi")? != 0;
-        let sheet = Sheet::read(&bytes("sheet")?).and_then(|sheet| {
-            let refusal = Refusal {
-                number: 15,
-                place: 0,
-            };
-            let fits = store >= sheet.node_count();
-            fits.then_some(sheet).ok_or(refusal)
-        });
-        return Some(Json::List(match sheet {
-            Ok(sheet) if rust => {
-                *machine = Some(Box::new(Guarded::new(&sheet, esi)));
-                vec![word("ok")]
-            }
-            Ok(sheet) => {
-                let rules = Rules {
-                    esi,
-                    ..Rules::default()
-                };
-                *machine = Some(Box::new(Model::with(&sheet, rules)));
-                vec![word("ok")]
-            }
-            Err(refusal) => vec![
-                word("refused"),
-                number(usize::from(refusal.number)),
-                number(refusal.place),
-            ],
-        }));
-    }
-    let machine = machine.as_mut()?;
-    Some(match kind {
-        "start" => spelled(machine.start(u8::try_from(size("ns")?).ok()?, &bytes("name")?)),
-        "attributes" => {
-            let outlines = call.field("outlines")?.list()?;
-            let outlines: Option<Vec<usize>> = outlines
-                .iter()
-                .map(|place| usize::try_from(place.number()?).ok())
-                .collect();
-            let attributes = Outlined {
-                input: &bytes("input")?,
-                outlines: &outlines?,
-            };
-            spelled(machine.attributes(size("self_closing")? != 0, attributes))
-        }
-        "end" => spelled(machine.end(&bytes("name")?, size("room")?)),
-        "ids" => Json::List(match machine.top() {
-            Some(ids) => vec![word("ids"), id_list(ids)],
-            None => vec![word("nothing open")],
-        }),
-        _ => return None,
-    })
 }
