@@ -45,6 +45,21 @@ impl ElementData for Element {
     }
 }
 
+/// What lol_html reports about one tag.
+#[derive(Default)]
+struct Reported {
+    ids: Ids,
+    with_content: Option<bool>,
+}
+
+impl Reported {
+    fn add(&mut self, info: MatchInfo) {
+        assert_eq!(self.ids >> info.match_id, 0, "ids are reported rising");
+        self.ids |= 1 << info.match_id;
+        self.with_content = Some(info.with_content);
+    }
+}
+
 /// lol_html's machine, made from a sheet.
 pub struct Judge {
     vm: SelectorMatchingVm<Element>,
@@ -62,12 +77,13 @@ impl Judge {
     }
 
     /// The answer for a tag that matched: it has content when it was pushed.
-    fn matched(&mut self, number: u64, ids: Ids) -> Answer {
+    fn matched(&mut self, number: u64, reported: Reported) -> Answer {
         let top = self.vm.current_element_data_mut();
-        Answer::Match {
-            ids,
-            content: top.is_some_and(|top| top.number == number),
-        }
+        let content = top.is_some_and(|top| top.number == number);
+        let said = reported.with_content;
+        assert!(said.is_none_or(|said| said == content), "the flags agree");
+        let ids = reported.ids;
+        Answer::Match { ids, content }
     }
 }
 
@@ -85,14 +101,15 @@ impl Machine for Judge {
             2 => Namespace::MathML,
             _ => return Answer::Refused(21),
         };
-        let mut ids = 0;
+        let mut reported = Reported::default();
         let result = self
             .vm
-            .exec_for_start_tag(local_name(name), namespace, &mut gather(&mut ids));
+            .exec_for_start_tag(local_name(name), namespace, &mut |info| reported.add(info));
         let number = BEGUN.get();
         match result {
-            Ok(()) => self.matched(number, ids),
+            Ok(()) => self.matched(number, reported),
             Err(VmError::InfoRequest(request)) => {
+                assert_eq!(reported.ids, 0, "a tag that waits reports no id");
                 self.waiting = Some((number, request));
                 Answer::Attributes
             }
@@ -117,9 +134,9 @@ impl Machine for Judge {
             attr_buffer: &attr_buffer,
             self_closing,
         };
-        let mut ids = 0;
-        request(&mut self.vm, info, &mut gather(&mut ids)).expect("no limit was set");
-        self.matched(number, ids)
+        let mut reported = Reported::default();
+        request(&mut self.vm, info, &mut |info| reported.add(info)).expect("no limit was set");
+        self.matched(number, reported)
     }
 
     fn end(&mut self, name: &[u8], _room: usize) -> Answer {
@@ -173,10 +190,6 @@ pub fn nth_holds(nth: Nth, index: i32) -> bool {
 /// lol_html's answer to whether two tag names are the same.
 pub fn same_name(a: &[u8], b: &[u8]) -> bool {
     local_name(a) == local_name(b)
-}
-
-fn gather(ids: &mut Ids) -> impl FnMut(MatchInfo) {
-    |info| *ids |= 1 << info.match_id
 }
 
 fn set(ids: &DenseHashSet) -> Ids {
