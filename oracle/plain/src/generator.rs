@@ -18,14 +18,17 @@ pub enum Family {
     E10Names,
     /// Refusals 26 to 28, which the Rust does not have.
     Limits,
+    /// Small cases, to be damaged: refusals of sheets and faulty traces, which never reach the Rust.
+    Damaged,
 }
 
 impl Family {
-    pub const ALL: [(&'static str, Self); 4] = [
+    pub const ALL: [(&'static str, Self); 5] = [
         ("good", Self::Good),
         ("e10-nth", Self::E10Nth),
         ("e10-names", Self::E10Names),
         ("limits", Self::Limits),
+        ("damaged", Self::Damaged),
     ];
 
     pub fn named(name: &str) -> Option<Self> {
@@ -199,16 +202,30 @@ fn some(random: &mut Random, count: usize, choices: &[&[u8]]) -> Vec<Vec<u8>> {
 
 impl Style {
     fn random(random: &mut Random, family: Family) -> Self {
-        let mut names = match family {
-            Family::E10Names => some(random, 4, &ONES),
-            _ => some(random, 3, &NAMES),
-        };
+        let mut style = Self::good(random);
+        match family {
+            Family::Good => {}
+            // As in the Rust, other elements are open: both must stay clear of the limits.
+            Family::E10Nth => style.depth = style.depth.min(40),
+            Family::E10Names => {
+                style.depth = style.depth.min(40);
+                style.names = some(random, 5, &ONES);
+            }
+            Family::Limits => style.reach_limits(random),
+            Family::Damaged => {
+                style.nodes = random.below(5);
+                style.depth = 2;
+                style.records = random.below(8);
+            }
+        }
+        style
+    }
+
+    fn good(random: &mut Random) -> Self {
+        let mut names = some(random, 3, &NAMES);
         names.extend(some(random, 1, &VOID));
         if random.chance(5) {
             names.push(vec![b'n'; 63]);
-        }
-        if family == Family::Limits {
-            names.extend((0..20).map(|number| format!("n{number}").into_bytes()));
         }
         let (value_count, attribute_count) = (2 + random.below(4), 1 + random.below(3));
         let mut values = some(random, value_count, &VALUES);
@@ -216,44 +233,34 @@ impl Style {
         if random.chance(30) {
             values.push(Vec::new());
         }
-        let deep = match family {
-            Family::Limits => 300,
-            // As in the Rust, other elements are open: both must stay clear of the limits.
-            Family::E10Nth | Family::E10Names => *random.pick(&[2, 4, 6, 12, 40]),
-            Family::Good => *random.pick(&[2, 3, 4, 6, 6, 12, 12, 40, 40, 240]),
-        };
         Self {
             names,
             attributes: some(random, attribute_count, &ATTRIBUTES),
             values,
-            nodes: match family {
-                Family::Limits => *random.pick(&[2, 12, 60, 120]),
-                _ => *random.pick(&[0, 1, 2, 3, 4, 6, 8, 12, 20, 20, 40, 120]),
-            },
+            nodes: *random.pick(&[0, 1, 2, 3, 4, 6, 8, 12, 20, 20, 40, 120]),
             branching: *random.pick(&[30, 50, 80]),
-            records: match family {
-                Family::Limits => 1_000,
-                _ => 20 + random.below(60) + 2 * deep,
-            },
-            depth: deep,
-            foreign: match family {
-                Family::Limits => *random.pick(&[0, 0, 5]),
-                _ => *random.pick(&[0, 5, 20, 50, 90]),
-            },
-            void: match family {
-                Family::Limits => *random.pick(&[4, 60]),
-                _ => 4,
-            },
-            attribute_tests: match family {
-                Family::Limits => *random.pick(&[0, 0, 20]),
-                _ => *random.pick(&[0, 20, 50, 80]),
-            },
-            negated: if family == Family::Limits { 3 } else { 20 },
-            nth: match family {
-                Family::Limits => *random.pick(&[3, 40]),
-                _ => *random.pick(&[0, 10, 40]),
-            },
+            records: 20 + random.below(60),
+            depth: *random.pick(&[2, 3, 4, 6, 6, 12, 12, 40, 40, 240]),
+            foreign: *random.pick(&[0, 5, 20, 50, 90]),
+            void: 4,
+            attribute_tests: *random.pick(&[0, 20, 50, 80]),
+            negated: 20,
+            nth: *random.pick(&[0, 10, 40]),
         }
+    }
+
+    /// Many names for 26, few end tags for 27, tests that hold on nodes with child trees for 28.
+    fn reach_limits(&mut self, random: &mut Random) {
+        self.names
+            .extend((0..20).map(|number| format!("n{number}").into_bytes()));
+        self.nodes = *random.pick(&[2, 12, 60, 120]);
+        self.records = 400;
+        self.depth = 300;
+        self.foreign = *random.pick(&[0, 0, 5]);
+        self.void = *random.pick(&[4, 60]);
+        self.attribute_tests = *random.pick(&[0, 0, 20]);
+        self.negated = 3;
+        self.nth = *random.pick(&[3, 40]);
     }
 }
 
@@ -409,7 +416,7 @@ impl Generator {
         }
         let mut model = Model::new(sheet);
         let mut records = Vec::new();
-        for _ in 0..self.style.records {
+        for _ in 0..self.style.records + 2 * self.style.depth {
             let record = self.record(&model, &asked);
             let refused_at_limit = match call(&mut model, &record) {
                 Answer::Refused(number) => (25..=28).contains(&number),

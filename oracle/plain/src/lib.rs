@@ -1,5 +1,6 @@
 //! Document 01 in plain Rust, written from the document and its readings. Nothing is compiled and nothing is fast.
 
+pub mod damage;
 pub mod fault;
 pub mod generator;
 pub mod machine;

@@ -73,62 +73,61 @@ fn smaller_bytes(bytes: &[u8]) -> Vec<Vec<u8>> {
     found
 }
 
+/// Shorter names that are still names.
+fn smaller_names(name: &[u8]) -> impl Iterator<Item = Vec<u8>> {
+    let found = smaller_bytes(name).into_iter();
+    found.filter(|name| !name.is_empty())
+}
+
 fn smaller_records(record: &Record) -> Vec<Record> {
     match record {
         Record::Start { namespace, name } => {
-            let mut found: Vec<Record> = smaller_bytes(name)
-                .into_iter()
-                .filter(|name| !name.is_empty())
-                .map(|name| Record::Start {
-                    namespace: *namespace,
-                    name,
-                })
-                .collect();
-            if *namespace > 0 {
-                found.push(Record::Start {
-                    namespace: 0,
-                    name: name.clone(),
-                });
-            }
-            found
+            let start = |namespace: u8, name: Vec<u8>| Record::Start { namespace, name };
+            let shorter = smaller_names(name).map(|name| start(*namespace, name));
+            let in_html = (*namespace > 0).then(|| start(0, name.clone()));
+            shorter.chain(in_html).collect()
         }
-        Record::End { name } => smaller_bytes(name)
-            .into_iter()
-            .filter(|name| !name.is_empty())
+        Record::End { name } => smaller_names(name)
             .map(|name| Record::End { name })
             .collect(),
         Record::Attributes {
             self_closing,
             attributes,
         } => {
-            let mut found = Vec::new();
-            let mut keep = |self_closing: bool, attributes: Vec<(Vec<u8>, Vec<u8>)>| {
-                found.push(Record::Attributes {
-                    self_closing,
-                    attributes,
-                });
+            let record = |self_closing: bool, attributes| Record::Attributes {
+                self_closing,
+                attributes,
             };
-            for at in 0..attributes.len() {
-                let mut fewer = attributes.clone();
-                fewer.remove(at);
-                keep(*self_closing, fewer);
-                for value in smaller_bytes(&attributes[at].1) {
-                    let mut shorter = attributes.clone();
-                    shorter[at].1 = value;
-                    keep(*self_closing, shorter);
-                }
-                for name in smaller_bytes(&attributes[at].0) {
-                    let mut shorter = attributes.clone();
-                    shorter[at].0 = name;
-                    keep(*self_closing, shorter);
-                }
-            }
-            if *self_closing {
-                keep(false, attributes.clone());
-            }
-            found
+            let smaller = smaller_attributes(attributes).into_iter();
+            let smaller = smaller.map(|attributes| record(*self_closing, attributes));
+            let open = self_closing.then(|| record(false, attributes.clone()));
+            smaller.chain(open).collect()
         }
     }
+}
+
+type Attributes = Vec<(Vec<u8>, Vec<u8>)>;
+
+/// One attribute fewer, or one name or value shorter.
+fn smaller_attributes(attributes: &Attributes) -> Vec<Attributes> {
+    let mut found = Vec::new();
+    for at in 0..attributes.len() {
+        let mut keep = |change: &dyn Fn(&mut Attributes)| {
+            let mut changed = attributes.clone();
+            change(&mut changed);
+            found.push(changed);
+        };
+        keep(&|all| {
+            all.remove(at);
+        });
+        for value in smaller_bytes(&attributes[at].1) {
+            keep(&|all| all[at].1 = value.clone());
+        }
+        for name in smaller_bytes(&attributes[at].0) {
+            keep(&|all| all[at].0 = name.clone());
+        }
+    }
+    found
 }
 
 fn sheets(sheet: &Sheet) -> Vec<Sheet> {
@@ -209,11 +208,7 @@ fn smaller_nodes(node: &Node) -> Vec<Node> {
 
 fn smaller_tag_tests(test: &TagTest) -> Vec<TagTest> {
     match test {
-        TagTest::LocalName(name) => smaller_bytes(name)
-            .into_iter()
-            .filter(|name| !name.is_empty())
-            .map(TagTest::LocalName)
-            .collect(),
+        TagTest::LocalName(name) => smaller_names(name).map(TagTest::LocalName).collect(),
         TagTest::NthOfType(nth) => {
             let mut found = vec![TagTest::NthChild(*nth)];
             found.extend(simpler_nth(*nth).map(TagTest::NthOfType));

@@ -1,5 +1,6 @@
 //! What the generator promises, and that it finds out about every wrong model.
 
+use plain::damage::damaged;
 use plain::program::{Lines, run};
 use plain::shrink::shrink;
 use plain::{Case, Family, Fault, Model, Sheet};
@@ -64,6 +65,18 @@ fn the_families_reach_what_they_are_for() {
     for family in [Family::E10Nth, Family::E10Names] {
         assert!((1..=20).any(|number| Case::random(number, family).is_e10()));
     }
+}
+
+#[test]
+fn damaged_inputs_meet_every_sheet_refusal_that_a_program_can_meet() {
+    let outputs: String = (1..=6_000).map(|number| right(&damaged(number))).collect();
+    for refusal in [1, 3, 4, 5, 6, 7, 8, 9, 10, 11, 12, 13] {
+        let line = format!("sheet refused {refusal} at ");
+        assert!(outputs.contains(&line), "{line}");
+    }
+    assert!(outputs.contains("bad trace at 0\n"));
+    assert!(outputs.matches("bad trace at").count() > 500);
+    assert!(outputs.matches("match").count() > 5_000);
 }
 
 #[test]

@@ -180,51 +180,48 @@ pub fn random_run(case_number: u64) -> Vec<Call> {
         store: case.sheet.node_count() + random.below(2),
     }];
     for record in case.records {
-        match record {
-            Record::Start { namespace, name } => {
-                let name = match random.below(10) {
-                    0 => random
-                        .pick(&["esi:include", "ESI:include", "esi:comment"])
-                        .as_bytes()
-                        .to_vec(),
-                    _ => name,
-                };
-                calls.push(Call::Start { namespace, name });
-            }
-            Record::Attributes {
-                self_closing,
-                attributes,
-            } => {
-                let (input, outlines) = shared(&mut random, &attributes);
-                if random.chance(5) {
-                    let mut outlines = outlines.clone();
-                    outlines.push(input.len() + 1);
-                    calls.push(Call::Attributes {
-                        self_closing,
-                        input: input.clone(),
-                        outlines,
-                    });
-                }
-                calls.push(Call::Attributes {
-                    self_closing,
-                    input,
-                    outlines,
-                });
-            }
-            Record::End { name } => {
-                let room = random.below(12);
-                if random.chance(50) {
-                    let name = name.clone();
-                    calls.push(Call::End { name, room });
-                }
-                calls.push(Call::End { name, room: 512 });
-            }
-        }
+        random_calls(&mut random, record, &mut calls);
         if random.chance(30) {
             calls.push(Call::Ids);
         }
     }
     calls
+}
+
+/// The record as a call, at times after a call that is refused: outlines not in fours, or too little room.
+fn random_calls(random: &mut Random, record: Record, calls: &mut Vec<Call>) {
+    match record {
+        Record::Start { namespace, name } => {
+            let esi = *random.pick(&["esi:include", "ESI:include", "esi:comment"]);
+            let name = if random.chance(10) { esi.into() } else { name };
+            calls.push(Call::Start { namespace, name });
+        }
+        Record::Attributes {
+            self_closing,
+            attributes,
+        } => {
+            let (input, outlines) = shared(random, &attributes);
+            let call = |outlines| Call::Attributes {
+                self_closing,
+                input: input.clone(),
+                outlines,
+            };
+            if random.chance(5) {
+                calls.push(call([&outlines[..], &[0]].concat()));
+            }
+            calls.push(call(outlines));
+        }
+        Record::End { name } => {
+            let call = |room| Call::End {
+                name: name.clone(),
+                room,
+            };
+            if random.chance(50) {
+                calls.push(call(random.below(12)));
+            }
+            calls.push(call(512));
+        }
+    }
 }
 
 /// The attributes laid out in one input; a piece that stands there already is used again.

@@ -1,14 +1,15 @@
-//! A fixed list of the Rust's answers to random cases, in the form of the outside vectors.
+//! A fixed list of the Rust's answers to random cases (the plain model's to damaged ones), in the form of the outside vectors.
 
 use judge::Guarded;
 use plain::Case;
+use plain::damage::damaged;
 use plain::generator::Family;
 use plain::program::Lines;
 use runs::arguments::Arguments;
 use runs::library::random_run;
 use runs::{Json, Side, hex};
 
-const USAGE: &str = "list CASES [--family good|limits] [--from NUMBER] [--library]";
+const USAGE: &str = "list CASES [--family good|limits|damaged] [--from NUMBER] [--library]";
 
 fn main() {
     let arguments = Arguments::read(USAGE, &["--family", "--from"], &["--library"]);
@@ -20,13 +21,17 @@ fn main() {
     let (words, side) = match arguments.family() {
         Family::Good => ("good", Side::Rust),
         Family::Limits => ("limits", Side::Guarded),
+        Family::Damaged => ("damaged", Side::Plain),
         Family::E10Nth | Family::E10Names => arguments.fail(),
     };
     for number in from..from + count {
         if arguments.option("--library").is_some() {
             println!("{}", library_run(number));
         } else {
-            let input = Case::random(number, arguments.family()).bytes();
+            let input = match arguments.family() {
+                Family::Damaged => damaged(number),
+                family => Case::random(number, family).bytes(),
+            };
             println!(
                 "{}",
                 program_case(&format!("{words} {number}"), &side, &input)
