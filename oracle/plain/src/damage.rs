@@ -21,7 +21,7 @@ pub fn damaged(number: u64) -> Vec<u8> {
     let mut sheet = case.sheet.write();
     let mut trace = case.bytes().split_off(sheet.len());
     for _ in 0..random.below(3) {
-        if random.chance(75) {
+        if random.chance(60) {
             damage_sheet(&mut random, &mut sheet);
         } else {
             damage_bytes(&mut random, &mut trace);
