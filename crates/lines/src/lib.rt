@@ -8,7 +8,7 @@ ghost use lib.ListN.{length};
 ghost use Rattle.cells.specs.Ids.{idsOf};
 ghost use Rattle.lines.specs.Lines.{digits, decimal, idsText, Wrote, matchLine, attrsLine, numberLine, popLine, refusedLine, sheetLine, badTraceLine};
 
-fn put_text(out: &mut [u8], at: usize, text: &[u8]) -> usize
+pub fn put_text(out: &mut [u8], at: usize, text: &[u8]) -> usize
     requires { ⌜ (at ≤ 8589934592) × (length (now text) ≤ 65536) ⌝ }
     ensures { λ r. ⌜ Wrote (now (out .entry)) at (now (text .entry)) r (now (out .exit)) ⌝ }
 {
@@ -45,7 +45,7 @@ fn put_decimal(out: &mut [u8], at: usize, n: u64) -> usize
 }
 
 // Each id of the set after a space, in rising order.
-fn put_ids(out: &mut [u8], at: usize, words: &[u64]) -> usize
+pub fn put_ids(out: &mut [u8], at: usize, words: &[u64]) -> usize
     requires { ⌜ at ≤ 4294967400 ⌝ }
     ensures { λ r. ⌜ Wrote (now (out .entry)) at (idsText (idsOf (now (words .entry)))) r (now (out .exit)) ⌝ }
     ensures { λ r. ⌜ (r ≤ at + 1344 * length (now (words .entry))) × (r ≤ at + 1376256) ⌝ }

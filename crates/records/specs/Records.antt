@@ -1,7 +1,7 @@
 -- Records of a trace (01, section 8). A byte past the end reads as 0, so the end of a piece alone says whether all of it is there.
 use mathlib.Core.Bool.{Bool, cond}
 use mathlib.Core.List.{List, [], _∷_}
-use Prim.Native.Nat.{ℕ, zero, suc, _+_}
+use Prim.Native.Nat.{ℕ, zero, suc, _+_, _≤_}
 use lib.Dec.{eqb, ltb}
 use lib.ListN.{length, getD}
 use Rattle.cells.specs.Numbers.{be16}
@@ -77,3 +77,10 @@ recordOf body o =
     cond (eqb (getD body 0 0) 1) (read (startOf body) o)
     (cond (eqb (getD body 0 0) 2) (attributesOf body o)
     (cond (eqb (getD body 0 0) 3) (read Record.End o) (read Record.Faulty o)))
+
+-- A record has at most 255 outlines, of four numbers each.
+abbrev pub Fits : Record → Type 0
+Fits (Record.Start namespace) = Unit {0}
+Fits (Record.Attributes closing n) = n ≤ 1020
+Fits Record.End = Unit {0}
+Fits Record.Faulty = Unit {0}

@@ -7,7 +7,7 @@ use cells::put32;
 ghost use mathlib.Core.Path.{_≡_};
 ghost use Prim.Native.Nat.{_+_, _≤_, _<_};
 ghost use lib.ListN.{length};
-ghost use Rattle.records.specs.Records.{recordEnd, startOf, read, readAttribute, attributesOf, recordOf, stepped};
+ghost use Rattle.records.specs.Records.{recordEnd, startOf, read, readAttribute, attributesOf, recordOf, stepped, Fits};
 ghost use Rattle.records.specs.Sheets.{sheetLength, sheetEnd};
 
 // Where a record ends, if all of it is there.
@@ -51,6 +51,7 @@ pub fn record_end(block: &[u8], at: usize) -> Cut
 
 fn start_of(body: &[u8]) -> Record
     ensures { λ r. ⌜ r ≡ startOf (now (body .entry)) ⌝ }
+    ensures { λ r. ⌜ Fits r ⌝ }
 {
     if body.len() < 2 {
         return Record::Faulty;
@@ -82,6 +83,7 @@ fn read_attribute(body: &[u8], outlines: &mut [u32], slot: usize, at: usize) -> 
 
 fn attributes_of(body: &[u8], outlines: &mut [u32]) -> Record
     ensures { λ r. ⌜ read r (now (outlines .exit)) ≡ attributesOf (now (body .entry)) (now (outlines .entry)) ⌝ }
+    ensures { λ r. ⌜ Fits r ⌝ }
 {
     if 65535 < body.len() {
         return Record::Faulty;
@@ -114,6 +116,7 @@ fn attributes_of(body: &[u8], outlines: &mut [u32]) -> Record
 // What a body says. The outlines are places in the body: name start, name end, value start, value end of each attribute.
 pub fn record_of(body: &[u8], outlines: &mut [u32]) -> Record
     ensures { λ r. ⌜ read r (now (outlines .exit)) ≡ recordOf (now (body .entry)) (now (outlines .entry)) ⌝ }
+    ensures { λ r. ⌜ Fits r ⌝ }
 {
     let kind = at8(body, 0);
     if kind == 1 {

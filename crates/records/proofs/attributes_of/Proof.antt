@@ -22,11 +22,11 @@ abbrev μ-loop : tie.MeasureT-loop
 
 -- src/lib.rt:87:9
 returns : tie.Need-returns Inv-loop μ-loop
-returns c = given-long _ _ (omega arith)
+returns c = (given-long _ _ (omega arith), tt)
 
 -- src/lib.rt:90:9
 returns-2 : tie.Need-returns-2 Inv-loop μ-loop
-returns-2 c = given-short _ _ (omega arith)
+returns-2 c = (given-short _ _ (omega arith), tt)
 
 -- src/lib.rt:92:9
 at8-requires : tie.Need-at8-requires Inv-loop μ-loop
@@ -34,7 +34,7 @@ at8-requires c κs = search needs
 
 -- src/lib.rt:94:9
 returns-3 : tie.Need-returns-3 Inv-loop μ-loop
-returns-3 c = given-mark _ _ (omega arith) (omega arith) _ (c .before .at8 .ensures .0) (c .if3 .taken)
+returns-3 c = (given-mark _ _ (omega arith) (omega arith) _ (c .before .at8 .ensures .0) (c .if3 .taken), tt)
 
 -- src/lib.rt:96:9
 at8-requires-2 : tie.Need-at8-requires-2 Inv-loop μ-loop
@@ -62,7 +62,7 @@ same-length c = search needs
 
 -- src/lib.rt:102:13
 returns-4 : tie.Need-returns-4 Inv-loop μ-loop
-returns-4 c = given-all _ _ (omega arith) (omega arith) _ (c .before .before .before .before .before .before .before .before .before .before .at8 .ensures .0) (c .before .before .before .before .before .before .before .before .before .if3 .left) _ (c .before .before .before .before .before .before .before .before .at82 .ensures .0) _ (all-faulty _ _ _ _ _ _ _ _ (omega arith) (c .before .before .before .before .read-attribute .ensures) (c .enum-told .given .1) ∙ sym (c .before .before .before .before .before .before .before .loop .inv .2))
+returns-4 c = (given-all _ _ (omega arith) (omega arith) _ (c .before .before .before .before .before .before .before .before .before .before .at8 .ensures .0) (c .before .before .before .before .before .before .before .before .before .if3 .left) _ (c .before .before .before .before .before .before .before .before .at82 .ensures .0) _ (all-faulty _ _ _ _ _ _ _ _ (omega arith) (c .before .before .before .before .read-attribute .ensures) (c .enum-told .given .1) ∙ sym (c .before .before .before .before .before .before .before .loop .inv .2)), tt)
 
 -- src/lib.rt:105:9
 add-slot : tie.Need-add-slot Inv-loop μ-loop
@@ -86,7 +86,7 @@ same-length-2 c = search needs
 
 -- src/lib.rt:109:9
 returns-5 : tie.Need-returns-5 Inv-loop μ-loop
-returns-5 c = given-all _ _ (omega arith) (omega arith) _ (c .before .before .before .before .before .at8 .ensures .0) (c .before .before .before .before .if3 .left) _ (c .before .before .before .at82 .ensures .0) _ (all-over _ _ _ _ _ _ (omega arith) (c .if4 .taken) ∙ sym (c .before .before .loop .inv .2))
+returns-5 c = (given-all _ _ (omega arith) (omega arith) _ (c .before .before .before .before .before .at8 .ensures .0) (c .before .before .before .before .if3 .left) _ (c .before .before .before .at82 .ensures .0) _ (all-over _ _ _ _ _ _ (omega arith) (c .if4 .taken) ∙ sym (c .before .before .loop .inv .2)), tt)
 
 -- src/lib.rt:83:1
 same-length-3 : tie.Need-same-length-3 Inv-loop μ-loop
@@ -94,7 +94,7 @@ same-length-3 c = search needs
 
 -- src/lib.rt:83:1
 returns-6 : tie.Need-returns-6 Inv-loop μ-loop
-returns-6 c = given-all _ _ (omega arith) (omega arith) _ (c .before .before .before .before .before .at8 .ensures .0) (c .before .before .before .before .if3 .left) _ (c .before .before .before .at82 .ensures .0) _ (all-end _ _ _ _ _ _ (omega arith) (c .if4 .left) ∙ sym (c .before .before .loop .inv .2))
+returns-6 c = (given-all _ _ (omega arith) (omega arith) _ (c .before .before .before .before .before .at8 .ensures .0) (c .before .before .before .before .if3 .left) _ (c .before .before .before .at82 .ensures .0) _ (all-end _ _ _ _ _ _ (omega arith) (c .if4 .left) ∙ sym (c .before .before .loop .inv .2)), omega arith)
 
 pub attributes-of-spec : {M : Type 1} → statement M
 attributes-of-spec =

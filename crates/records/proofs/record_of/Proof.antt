@@ -18,7 +18,7 @@ start-of-requires c κs = search needs
 
 -- src/lib.rt:120:9
 returns : tie.Need-returns
-returns c = kind-start _ _ _ (c .before .before .at8 .ensures .0) (c .before .if1 .taken) _ (c .start-of .ensures)
+returns c = (kind-start _ _ _ (c .before .before .at8 .ensures .0) (c .before .if1 .taken) _ (c .start-of .ensures .0), c .start-of .ensures .1)
 
 -- src/lib.rt:123:9
 attributes-of-requires : tie.Need-attributes-of-requires
@@ -30,15 +30,15 @@ same-length c = search needs
 
 -- src/lib.rt:123:9
 returns-2 : tie.Need-returns-2
-returns-2 c = kind-attributes _ _ _ (c .before .before .before .before .before .before .at8 .ensures .0) (c .before .before .before .before .before .if1 .left) (c .before .before .before .before .if2 .taken) _ (c .before .before .attributes-of .ensures)
+returns-2 c = (kind-attributes _ _ _ (c .before .before .before .before .before .before .at8 .ensures .0) (c .before .before .before .before .before .if1 .left) (c .before .before .before .before .if2 .taken) _ (c .before .before .attributes-of .ensures .0), c .before .before .attributes-of .ensures .1)
 
 -- src/lib.rt:126:9
 returns-3 : tie.Need-returns-3
-returns-3 c = kind-end _ _ _ (c .before .before .before .at8 .ensures .0) (c .before .before .if1 .left) (c .before .if2 .left) (c .if3 .taken)
+returns-3 c = (kind-end _ _ _ (c .before .before .before .at8 .ensures .0) (c .before .before .if1 .left) (c .before .if2 .left) (c .if3 .taken), tt)
 
 -- src/lib.rt:115:1
 returns-4 : tie.Need-returns-4
-returns-4 c = kind-none _ _ _ (c .before .before .before .at8 .ensures .0) (c .before .before .if1 .left) (c .before .if2 .left) (c .if3 .left)
+returns-4 c = (kind-none _ _ _ (c .before .before .before .at8 .ensures .0) (c .before .before .if1 .left) (c .before .if2 .left) (c .if3 .left), tt)
 
 pub record-of-spec : {M : Type 1} → statement M
 record-of-spec =

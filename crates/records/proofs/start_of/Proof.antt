@@ -12,7 +12,7 @@ use Rattle.cells.proofs.get8.Reads as get8-reads
 -- src/lib.rt:56:9
 returns : tie.Need-returns
 unfolding startOf
-returns c = simp (lt-ltb _ _ (c .if1 .taken))
+returns c = (simp (lt-ltb _ _ (c .if1 .taken)), tt)
 
 -- src/lib.rt:58:19
 get8-requires : tie.Need-get8-requires
@@ -25,7 +25,7 @@ cast-t5 c = search needs
 -- src/lib.rt:52:1
 returns-2 : tie.Need-returns-2
 unfolding startOf
-returns-2 c = simp (le-ltb _ _ (c .before .if1 .left)) (ap Record.Start (c .get8 .ensures))
+returns-2 c = (simp (le-ltb _ _ (c .before .if1 .left)) (ap Record.Start (c .get8 .ensures)), tt)
 
 pub start-of-spec : {M : Type 1} → statement M
 start-of-spec = tie.close (tie.spec returns get8-requires cast-t5 returns-2)
