@@ -1,0 +1,7 @@
+pub mod Program
+pub mod KeyLaws
+pub mod Compiler
+pub mod StoreLaws
+pub mod MadeLaws
+pub mod Placing
+pub mod Examples

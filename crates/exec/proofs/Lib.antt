@@ -1,0 +1,4 @@
+pub mod Candidates
+pub mod IdTurns
+pub mod ScanTurns
+pub mod TestTurns

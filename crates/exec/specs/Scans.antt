@@ -1,0 +1,56 @@
+-- Scans over the live instructions (01, section 4: when a tag waits, and what it matches).
+use mathlib.Core.Bool.{Bool, true, false, cond, _&&_}
+use mathlib.Core.List.{List, [], _∷_}
+use Prim.Native.Nat.{ℕ, _+_}
+use lib.ListN.{length, take}
+use Rattle.rules.specs.Attributes.{Attribute}
+use Rattle.exec.specs.declared.cursor.Cursor.{Cursor}
+use Rattle.exec.specs.declared.cursor.Ranges.{Ranges}
+use Rattle.exec.specs.declared.scan.Scanned.{Scanned}
+use Rattle.exec.specs.Cursors.{cursorOf, rest, ats}
+use Rattle.exec.specs.Instructions.{tagPasses, attributePasses, asks}
+
+-- The members that pass a test, in their order.
+unfoldable pub keep : (ℕ → Bool) → List ℕ → List ℕ
+keep p [] = []
+keep p (x ∷ xs) = cond (p x) (x ∷ keep p xs) (keep p xs)
+
+-- A scan by the tag alone: these match and it is over; or these match so far, and it stopped at an instruction that asks for attributes.
+pub data Sought : Type 0 where
+  over : (found : List ℕ) → Sought
+  stopped : (found : List ℕ) → Cursor → Sought
+
+-- One instruction more is found.
+unfoldable pub foundToo : ℕ → Sought → Sought
+foundToo a (over found) = over (a ∷ found)
+foundToo a (stopped found c) = stopped (a ∷ found) c
+
+-- Going over the cursors: an instruction fails, or asks, or matches.
+unfoldable pub seek : (passes asking : ℕ → Bool) → List Cursor → Sought
+seek passes asking [] = over []
+seek passes asking (c ∷ cs) = cond (passes (c .at)) (cond (asking (c .at)) (stopped [] c) (foundToo (c .at) (seek passes asking cs))) (seek passes asking cs)
+
+-- What is found.
+unfoldable pub foundIn : Sought → List ℕ
+foundIn (over found) = found
+foundIn (stopped found c) = found
+
+-- The answer, if so many were found before.
+unfoldable pub answerFrom : ℕ → Sought → Scanned
+answerFrom count (over found) = record { count = count + length found; stuck = false; cursor = cursorOf 0 0 0 0 }
+answerFrom count (stopped found c) = record { count = count + length found; stuck = true; cursor = c }
+
+-- The scan of a tag from a cursor on, over as many instructions as the budget allows.
+unfoldable pub tagScan : (sheet program nodes : List ℕ) → Ranges → (name : List ℕ) → (key child ofType : ℕ) → Cursor → (budget : ℕ) → Sought
+tagScan sheet program nodes ranges name key child ofType from budget =
+    seek (tagPasses sheet program name key child ofType) (asks program) (take budget (rest program nodes ranges from))
+
+-- All tests of an instruction hold.
+unfoldable pub allPass : (sheet program name : List ℕ) → (key child ofType : ℕ) → Bool → List Attribute → ℕ → Bool
+allPass sheet program name key child ofType html attributes a =
+    tagPasses sheet program name key child ofType a && attributePasses sheet program html attributes a
+
+-- The instructions from a cursor on that match with the attributes at hand, among as many as the budget allows.
+unfoldable pub attributeScan : (sheet program nodes : List ℕ) → Ranges → (name : List ℕ) → (key child ofType : ℕ) → Bool → List Attribute → Cursor → (budget : ℕ) → List ℕ
+attributeScan sheet program nodes ranges name key child ofType html attributes from budget =
+    keep (allPass sheet program name key child ofType html attributes) (ats (take budget (rest program nodes ranges from)))

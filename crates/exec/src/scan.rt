@@ -1,0 +1,207 @@
+//! Going over the live instructions for a tag: by the tag alone until one asks for attributes, then with them (mod.rs).
+use crate::cursor::Cursor;
+use crate::cursor::Jump;
+use crate::cursor::Ranges;
+use crate::instruction::asks_attributes;
+use crate::instruction::attributes_pass;
+use crate::instruction::tag_tests_pass;
+use cells::get32;
+use cells::put16;
+ghost use mathlib.Core.Path.{_≡_};
+ghost use Prim.Native.Nat.{_+_, _≤_, _^_, max};
+ghost use lib.ListN.{length};
+ghost use Rattle.cells.specs.Stretches.{written};
+ghost use Rattle.rules.specs.Attributes.{attributesOf};
+ghost use Rattle.exec.specs.Scans.{tagScan, answerFrom, foundIn, attributeScan};
+ghost use Rattle.exec.specs.Searching.{Reached, affordable, firstKeyed};
+
+// How many instructions matched, and whether one asks for attributes: the cursor stands on it, or is all 0.
+pub struct Scanned {
+    pub count: usize,
+    pub stuck: bool,
+    pub cursor: Cursor,
+}
+
+// The cursor on the next instruction whose key fits, with the budget for what comes after it.
+enum Candidate {
+    At(Cursor, usize),
+    Over,
+}
+
+// How many instructions of a range a budget allows; none of a range that ends past the limit.
+fn stretch(at: usize, stop: usize, limit: u16, budget: usize) -> usize
+    ensures { λ r. ⌜ (r ≡ affordable limit at stop budget) × ((r ≤ budget) × (at + r ≤ max at (2 ^ 16))) ⌝ }
+{
+    if (limit as usize) < stop {
+        return 0;
+    }
+    if stop <= at {
+        return 0;
+    }
+    if budget < stop - at {
+        return budget;
+    }
+    stop - at
+}
+
+// The first of so many instructions that has no name key or this one; the one after them if there is none. One word a row is read.
+fn first_keyed(program: &[u32], key: u32, from: usize, count: usize) -> usize
+    requires { ⌜ from + count ≤ max from (2 ^ 16) ⌝ }
+    ensures { λ r. ⌜ (r ≡ firstKeyed (now (program .entry)) key from count) × ((from ≤ r) × (r ≤ from + count)) ⌝ }
+{
+    let end = from + count;
+    let mut a = from;
+    while a < end {
+        let wanted = get32(program, a * 8 + 7);
+        if wanted == 0 {
+            return a;
+        }
+        if wanted == key {
+            return a;
+        }
+        a += 1;
+    }
+    a
+}
+
+// The next instruction whose key fits, among as many as the budget allows.
+fn next_candidate(
+    program: &[u32],
+    nodes: &[u16],
+    ranges: Ranges,
+    key: u32,
+    from: Cursor,
+    budget: usize,
+) -> Candidate
+    ensures { λ r. ⌜ Reached (now (program .entry)) (now (nodes .entry)) ranges key from budget r ⌝ }
+{
+    let limit = ranges.limit;
+    let mut c = from;
+    let mut left = budget;
+    while 0 < left {
+        let at = c.at;
+        let count = stretch(at, c.stop, limit, left);
+        let a = first_keyed(program, key, at, count);
+        if a < at + count {
+            let found = Cursor {
+                stage: c.stage,
+                slot: c.slot,
+                at: a,
+                stop: c.stop,
+            };
+            return Candidate::At(found, left - (a - at) - 1);
+        }
+        left -= count;
+        match c.jump(program, nodes, ranges) {
+            Jump::To(d) => {
+                c = d;
+            }
+            Jump::Done => {
+                return Candidate::Over;
+            }
+        }
+    }
+    Candidate::Over
+}
+
+// The instructions that match by the tag alone, up to the first that asks for attributes; the found ones are written from the store's start on.
+pub fn scan_tag(
+    sheet: &[u8],
+    program: &[u32],
+    nodes: &[u16],
+    ranges: Ranges,
+    name: &[u8],
+    key: u32,
+    child: u32,
+    of_type: u32,
+    from: Cursor,
+    budget: u16,
+    found: &mut [u16],
+) -> Scanned
+    ensures { λ r. ⌜
+        (r ≡ answerFrom 0 (tagScan (now (sheet .entry)) (now (program .entry)) (now (nodes .entry)) ranges (now (name .entry)) key child «of_type» from budget))
+        × (now (found .exit) ≡ written (now (found .entry)) 0 (foundIn (tagScan (now (sheet .entry)) (now (program .entry)) (now (nodes .entry)) ranges (now (name .entry)) key child «of_type» from budget)))
+        ⌝ }
+{
+    let mut c = from;
+    let mut left = budget as usize;
+    let mut count = 0;
+    loop {
+        match next_candidate(program, nodes, ranges, key, c, left) {
+            Candidate::At(d, more) => {
+                let a = d.at as u16;
+                c = d.next();
+                left = more;
+                if tag_tests_pass(sheet, program, a, name, child, of_type) {
+                    if asks_attributes(program, a) {
+                        return Scanned {
+                            count,
+                            stuck: true,
+                            cursor: d,
+                        };
+                    }
+                    put16(found, count, a);
+                    count += 1;
+                }
+            }
+            Candidate::Over => {
+                return Scanned {
+                    count,
+                    stuck: false,
+                    cursor: Cursor {
+                        stage: 0,
+                        slot: 0,
+                        at: 0,
+                        stop: 0,
+                    },
+                };
+            }
+        }
+    }
+}
+
+// All instructions that match with the attributes at hand, from the cursor on; they are written after the `count` found before, and the answer counts both.
+pub fn scan_attributes(
+    sheet: &[u8],
+    program: &[u32],
+    nodes: &[u16],
+    ranges: Ranges,
+    name: &[u8],
+    key: u32,
+    child: u32,
+    of_type: u32,
+    input: &[u8],
+    outlines: &[u32],
+    html: bool,
+    from: Cursor,
+    budget: u16,
+    count: u16,
+    found: &mut [u16],
+) -> usize
+    ensures { λ r. ⌜
+        (r ≡ count + length (attributeScan (now (sheet .entry)) (now (program .entry)) (now (nodes .entry)) ranges (now (name .entry)) key child «of_type» html (attributesOf (now (input .entry)) (now (outlines .entry))) from budget))
+        × (now (found .exit) ≡ written (now (found .entry)) count (attributeScan (now (sheet .entry)) (now (program .entry)) (now (nodes .entry)) ranges (now (name .entry)) key child «of_type» html (attributesOf (now (input .entry)) (now (outlines .entry))) from budget))
+        ⌝ }
+{
+    let mut c = from;
+    let mut left = budget as usize;
+    let mut all = count as usize;
+    loop {
+        match next_candidate(program, nodes, ranges, key, c, left) {
+            Candidate::At(d, more) => {
+                let a = d.at as u16;
+                c = d.next();
+                left = more;
+                if tag_tests_pass(sheet, program, a, name, child, of_type) {
+                    if attributes_pass(sheet, program, a, input, outlines, html) {
+                        put16(found, all, a);
+                        all += 1;
+                    }
+                }
+            }
+            Candidate::Over => {
+                return all;
+            }
+        }
+    }
+}

@@ -1,0 +1,4 @@
+pub mod Small
+pub mod Scanning
+pub mod Accepting
+pub mod Calling

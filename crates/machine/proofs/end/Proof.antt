@@ -1,0 +1,93 @@
+use mathlib.Core.Path.{_≡_, refl, sym, ap, _∙_}
+use native.Mathlib.Omega.{arith}
+use Rattle.machine.proofs.Small.{end-passed}
+use Rattle.machine.proofs.Calling.{end-state, end-tag, end-lowered}
+use borrow.Author.Needs.{needs}
+use Rattle.machine.proofs.end.Statement.{statement}
+use Rattle.machine.proofs.end.Tie as tie
+use Rattle.machine.proofs.end.Reads as reads
+use Rattle.machine.proofs.end.Lts as lts
+use Rattle.machine.proofs.end_lowered.Reads as end-lowered-reads
+use Rattle.weighing.proofs.end_refusal.Reads as end-refusal-reads
+use Rattle.weighing.proofs.lower_into.Reads as lower-into-reads
+use Rattle.weighing.proofs.state_refusal.Reads as state-refusal-reads
+
+-- src/lib.rt:571:9
+state-refusal-requires : tie.Need-state-refusal-requires
+state-refusal-requires c κs = search needs
+
+-- src/lib.rt:573:9
+same-length : tie.Need-same-length
+same-length c = search needs
+
+-- src/lib.rt:573:9
+returns : tie.Need-returns
+returns c = end-state _ _ _ _ _ _ (c .before .state-refusal .ensures) (c .if1 .taken)
+
+-- src/lib.rt:575:9
+end-refusal-requires : tie.Need-end-refusal-requires
+end-refusal-requires c κs = search needs
+
+-- src/lib.rt:577:9
+same-length-2 : tie.Need-same-length-2
+same-length-2 c = search needs
+
+-- src/lib.rt:577:9
+returns-2 : tie.Need-returns-2
+returns-2 c = end-tag _ _ _ _ _ _ (c .before .before .before .before .state-refusal .ensures) (c .before .before .before .if1 .left) _ (c .before .end-refusal .ensures) (c .if2 .taken)
+
+-- src/lib.rt:580:22
+slice-aggregate-lower-into : tie.Need-slice-aggregate-lower-into
+slice-aggregate-lower-into c = search needs
+
+-- src/lib.rt:580:5
+lower-into-requires : tie.Need-lower-into-requires
+lower-into-requires c κs = search needs
+
+-- src/lib.rt:582:35
+sub-end-lowered : tie.Need-sub-end-lowered
+sub-end-lowered c = search needs
+
+-- src/lib.rt:582:35
+part-end-lowered-start : tie.Need-part-end-lowered-start
+part-end-lowered-start c = search needs
+
+-- src/lib.rt:582:35
+part-end-lowered-end : tie.Need-part-end-lowered-end
+part-end-lowered-end c = let n = end-passed _ _ _ (c .before .before .before .before .before .before .end-refusal .ensures) (c .before .before .before .before .before .if2 .left) in omega (arith, n)
+
+-- src/lib.rt:582:5
+end-lowered-requires : tie.Need-end-lowered-requires
+end-lowered-requires c κs = search needs
+
+-- src/lib.rt:559:1
+same-length-3 : tie.Need-same-length-3
+same-length-3 c = search needs
+
+-- src/lib.rt:559:1
+same-length-4 : tie.Need-same-length-4
+same-length-4 c = search needs
+
+-- src/lib.rt:559:1
+returns-3 : tie.Need-returns-3
+returns-3 c = let n = end-passed _ _ _ (c .before .before .before .before .before .before .before .before .before .before .before .before .before .end-refusal .ensures) (c .before .before .before .before .before .before .before .before .before .before .before .before .if2 .left) in end-lowered _ _ _ _ _ _ (c .before .before .before .before .before .before .before .before .before .before .before .before .before .before .before .before .state-refusal .ensures) (c .before .before .before .before .before .before .before .before .before .before .before .before .before .before .before .if1 .left) _ (c .before .before .before .before .before .before .before .before .before .before .before .before .before .end-refusal .ensures) _ _ _ (c .before .before .before .before .before .before .before .before .before .before .before .before .if2 .left) (c .before .before .before .before .before .before .before .before .before .before .lower-into .ensures) (omega (arith, n)) (c .before .before .before .before .end-lowered .ensures)
+
+pub end-spec : {M : Type 1} → statement M
+end-spec =
+    tie.close
+    (tie.spec
+    state-refusal-requires
+    same-length
+    returns
+    end-refusal-requires
+    same-length-2
+    returns-2
+    slice-aggregate-lower-into
+    lower-into-requires
+    sub-end-lowered
+    part-end-lowered-start
+    part-end-lowered-end
+    end-lowered-requires
+    same-length-3
+    same-length-4
+    returns-3)

@@ -1,0 +1,4 @@
+pub mod TestLaws
+pub mod RecordLaws
+pub mod WalkLaws
+pub mod SheetLaws

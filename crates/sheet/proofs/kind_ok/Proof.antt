@@ -1,0 +1,29 @@
+use borrow.Author.Tests.{lt-ltb, le-ltb}
+use Rattle.sheet.specs.Parser.{kindOk}
+use Rattle.sheet.proofs.kind_ok.Statement.{statement}
+use Rattle.sheet.proofs.kind_ok.Tie as tie
+use Rattle.sheet.proofs.kind_ok.Reads as reads
+use Rattle.sheet.proofs.kind_ok.Lts as lts
+
+-- src/lib.rt:42:1
+returns : tie.Need-returns
+unfolding kindOk
+returns c = simp (c .before .if1 .taken, lt-ltb _ _ (c .if2 .taken))
+
+-- src/lib.rt:42:1
+returns-2 : tie.Need-returns-2
+unfolding kindOk
+returns-2 c = simp (c .before .if1 .taken, le-ltb _ _ (c .if2 .left))
+
+-- src/lib.rt:42:1
+returns-3 : tie.Need-returns-3
+unfolding kindOk
+returns-3 c = simp (c .before .if1 .left, lt-ltb _ _ (c .if3 .taken))
+
+-- src/lib.rt:42:1
+returns-4 : tie.Need-returns-4
+unfolding kindOk
+returns-4 c = simp (c .before .if1 .left, le-ltb _ _ (c .if3 .left))
+
+pub kind-ok-spec : {M : Type 1} → statement M
+kind-ok-spec = tie.close (tie.spec returns returns-2 returns-3 returns-4)

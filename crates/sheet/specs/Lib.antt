@@ -1,0 +1,5 @@
+pub mod Records
+pub mod Parser
+pub mod Meaning
+pub mod Spelling
+pub mod SpellingLaws

@@ -1,0 +1,3 @@
+pub mod Loops
+pub mod Counts
+pub mod Waits

@@ -1,0 +1,4 @@
+pub mod Stores
+pub mod Laws
+pub mod Reads
+pub mod Examples

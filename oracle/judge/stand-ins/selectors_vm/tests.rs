@@ -1,0 +1,1 @@
+//! Stand-in: the tests that `mod.rs` names were not published with it.
