@@ -1,20 +1,24 @@
 -- Each way out of a run over a block.
 use mathlib.Core.Bool.{Bool, true, false, cond}
-use mathlib.Core.List.{List}
+use mathlib.Core.List.{List, [], _∷_}
 use mathlib.Core.Path.{_≡_, refl, sym, ap, _∙_, subst}
 use Prim.Native.Nat.{ℕ, zero, suc, _+_, _-_, _≤_, _<_}
 use native.Mathlib.Numerals.{sub-one}
 use native.Mathlib.Omega.{arith}
 use borrow.Author.Tests.{lt-ltb, le-ltb, ltb-false, lt-leb, le-leb, eq-eqb, ne-eqb}
 use lib.Dec.{ltb}
-use lib.ListN.{length, getD}
+use lib.ListN.{length, getD, set}
 use Rattle.cells.specs.Numbers.{part, be16}
-use Rattle.lines.specs.Lines.{badTraceLine}
+use Rattle.cells.specs.Stretches.{written, cellsFrom, cells-above}
+use Rattle.lines.specs.Lines.{Wrote, refusedLine, sheetLine, badTraceLine}
+use Rattle.machine.specs.Calls.{fresh, freshCall}
+use Rattle.machine.specs.declared.Made.{Made}
 use Rattle.records.specs.Records.{recordEnd}
+use Rattle.records.specs.Sheets.{sheetEnd}
 use Rattle.records.specs.declared.Cut.{Cut}
-use Rattle.stack.specs.Stores.{Stores}
+use Rattle.stack.specs.Stores.{Stores, stores}
 use Rattle.trace.specs.Answers.{Answered, answered, Within, turnOf, saying}
-use Rattle.trace.specs.Run.{fed, Ran, ran, badFed, badOut, badRun, onCut, onSaid, answersFrom, feedOf}
+use Rattle.trace.specs.Run.{fed, Ran, ran, badFed, badOut, badRun, onCut, onSaid, answersFrom, feedOf, wholeRun, wholeBy, wholeOf}
 use Rattle.trace.specs.declared.answers.Said.{Said}
 use Rattle.trace.specs.declared.run.Fed.{Fed}
 use Rattle.trace.specs.declared.run.Halt.{Halt}
@@ -137,3 +141,36 @@ module _ (sheet program block : List ℕ) (last : Bool) (place first : ℕ) (out
             enough = omega arith;
             same = l .same ∙ run-more sheet program block last place (l .n) at wrote out s (some-left h) h g cut end e f body q said next o₁ s₁ t u;
           }
+
+-- ---- bytes moved to the front: the next one, and those behind it stay
+
+pub keep-more : (s : List ℕ) (at i m : ℕ) → 0 < m → written s i (cellsFrom s (at + i) m) ≡ written (set s i (getD s (at + i) 0)) (i + 1) (cellsFrom (set s i (getD s (at + i) 0)) (at + (i + 1)) (m - 1))
+unfolding written cellsFrom
+keep-more s at i zero h = absurd (omega arith)
+keep-more s at i (suc m) h =
+    let e : at + i + 1 ≡ at + (i + 1) = omega arith in
+    rw (sub-one, e, ← cells-above s i (getD s (at + i) 0 ∷ []) (at + (i + 1)) m (omega arith))
+
+pub keep-start : (s : List ℕ) (at n : ℕ) → written s 0 (cellsFrom s at n) ≡ written s 0 (cellsFrom s (at + 0) (n - 0))
+keep-start s at n = let e : at + 0 ≡ at = omega arith in let f : n - 0 ≡ n = omega arith in rw (e, f)
+
+pub keep-all : (s : List ℕ) (at i m : ℕ) → m ≤ 0 → written s i (cellsFrom s at m) ≡ s
+unfolding written cellsFrom
+keep-all s at i zero h = refl
+keep-all s at i (suc m) h = absurd (omega arith)
+
+-- ---- the whole input
+
+module _ (input : List ℕ) (n : ℕ) (e : n ≡ sheetEnd input) (program out : List ℕ) (s : Stores) (made : Made) (program₁ rows₁ : List ℕ) (f : fresh made program₁ rows₁ ≡ freshCall (part input 0 n) false program s) where
+  pub whole-made : made ≡ Made.Made → (r : Fed) (o : List ℕ) (s₁ : Stores) → ran r o s₁ ≡ feedOf (part input 0 n) program₁ (part input n (length input)) true 0 out (stores rows₁ (s .names) (s .ids) (s .nodes))
+      → wholeRun (r .wrote) program₁ o s₁ ≡ wholeOf input program out s
+  unfolding wholeOf wholeBy
+  whole-made m r o s₁ q = rw (← e, ← f, m, ← q)
+
+  pub whole-sheet : (k place : ℕ) → made ≡ Made.Sheet k place → (r : ℕ) (o : List ℕ) → Wrote out 0 (sheetLine k place) r o → wholeRun r program₁ o (stores rows₁ (s .names) (s .ids) (s .nodes)) ≡ wholeOf input program out s
+  unfolding wholeOf wholeBy
+  whole-sheet k place m r o w = rw (← e, ← f, m, w .0, w .1)
+
+  pub whole-refused : (k : ℕ) → made ≡ Made.Refused k → (r : ℕ) (o : List ℕ) → Wrote out 0 (refusedLine k) r o → wholeRun r program₁ o (stores rows₁ (s .names) (s .ids) (s .nodes)) ≡ wholeOf input program out s
+  unfolding wholeOf wholeBy
+  whole-refused k m r o w = rw (← e, ← f, m, w .0, w .1)

@@ -1,15 +1,18 @@
 -- A run over a block of a trace: each whole record is answered by a line, until the bytes, the room or the trace end (01, section 8).
-use mathlib.Core.Bool.{Bool, cond, not}
+use mathlib.Core.Bool.{Bool, true, false, cond, not}
 use mathlib.Core.List.{List}
 use Prim.Native.Nat.{ℕ, zero, suc, _+_, _-_}
 use lib.Dec.{eqb, ltb, leb}
 use lib.ListN.{length, getD}
 use Rattle.cells.specs.Numbers.{part}
 use Rattle.cells.specs.Stretches.{written}
-use Rattle.lines.specs.Lines.{badTraceLine}
+use Rattle.lines.specs.Lines.{refusedLine, sheetLine, badTraceLine}
+use Rattle.machine.specs.Calls.{freshCall}
+use Rattle.machine.specs.declared.Made.{Made}
 use Rattle.records.specs.Records.{recordEnd}
+use Rattle.records.specs.Sheets.{sheetEnd}
 use Rattle.records.specs.declared.Cut.{Cut}
-use Rattle.stack.specs.Stores.{Stores}
+use Rattle.stack.specs.Stores.{Stores, stores}
 use Rattle.trace.specs.Answers.{Answered, turnOf, saying}
 use Rattle.trace.specs.declared.answers.Said.{Said}
 use Rattle.trace.specs.declared.run.Fed.{Fed}
@@ -68,3 +71,28 @@ module _ (sheet program block : List ℕ) (last : Bool) (place : ℕ) where
       cond (ltb 0 place) (answersFrom (length block) 0 0 out s)
       (cond (eqb (length block) 0) (cond last (badRun 0 0 0 out s) (ran (fed 0 0 Halt.Hungry) out s))
       (cond (not (eqb (getD block 0 0) 1)) (badRun 0 0 0 out s) (answersFrom (length block) 1 0 out s)))
+
+-- A whole input at once: how many bytes of lines, then the instruction store, the buffer of lines and the stores after it.
+pub record Whole : Type 0 where
+  pub wrote : ℕ
+  pub program : List ℕ
+  pub out : List ℕ
+  pub after : Stores
+
+abbrev pub wholeRun : ℕ → List ℕ → List ℕ → Stores → Whole
+wholeRun wrote program out after = record { wrote = wrote; program = program; out = out; after = after }
+
+-- A refused sheet is the only line; else the trace is answered.
+unfoldable pub wholeBy : (sheet trace : List ℕ) → Made → (program out : List ℕ) → Stores → Whole
+wholeBy sheet trace Made.Made program out s =
+    let r = feedOf sheet program trace true 0 out s in
+    wholeRun (r .fed .wrote) program (r .out) (r .after)
+wholeBy sheet trace (Made.Sheet n place) program out s = wholeRun (0 + length (sheetLine n place)) program (written out 0 (sheetLine n place)) s
+wholeBy sheet trace (Made.Refused n) program out s = wholeRun (0 + length (refusedLine n)) program (written out 0 (refusedLine n)) s
+
+-- ESI is off.
+unfoldable pub wholeOf : (input program out : List ℕ) → Stores → Whole
+wholeOf input program out s =
+    let sheet = part input 0 (sheetEnd input) in
+    let f = freshCall sheet false program s in
+    wholeBy sheet (part input (sheetEnd input) (length input)) (f .made) (f .program) out (stores (f .rows) (s .names) (s .ids) (s .nodes))

@@ -13,8 +13,9 @@ use records::sheet_end;
 ghost use mathlib.Core.Path.{_≡_};
 ghost use Prim.Native.Nat.{_+_, _-_, _≤_};
 ghost use lib.ListN.{length};
+ghost use Rattle.cells.specs.Stretches.{cellsFrom, written};
 ghost use Rattle.stack.specs.Stores.{stores};
-ghost use Rattle.trace.specs.Run.{ran, badFed, badOut, answersFrom, feedOf};
+ghost use Rattle.trace.specs.Run.{ran, badFed, badOut, answersFrom, feedOf, wholeRun, wholeOf};
 
 // Why a run over a block ended: it wants more bytes, it wants room for lines, or the last word is said.
 pub enum Halt {
@@ -160,7 +161,7 @@ pub fn feed(
 // Moves the bytes from `at` to `end` to the front, and answers how many they are.
 pub fn keep(s: &mut [u8], at: usize, end: usize) -> usize
     requires { ⌜ (at ≤ end) × (end ≤ length (now s)) ⌝ }
-    ensures { λ r. ⌜ r ≤ length (now (s .exit)) ⌝ }
+    ensures { λ r. ⌜ (r ≡ end - at) × (now (s .exit) ≡ written (now (s .entry)) 0 (cellsFrom (now (s .entry)) at (end - at))) ⌝ }
 {
     let mut i = 0;
     while i < end - at {
@@ -181,6 +182,7 @@ pub fn whole(
     out: &mut [u8],
 ) -> usize
     requires { ⌜ (length (now input) ≤ 1048576) × (8192 ≤ length (now out)) × (length (now out) ≤ 1048576) ⌝ }
+    ensures { λ r. ⌜ wholeRun r (now (program .exit)) (now (out .exit)) (stores (now (rows .exit)) (now (names .exit)) (now (ids .exit)) (now (nodes .exit))) ≡ wholeOf (now (input .entry)) (now (program .entry)) (now (out .entry)) (stores (now (rows .entry)) (now (names .entry)) (now (ids .entry)) (now (nodes .entry))) ⌝ }
     ensures { λ r. ⌜ r ≤ length (now (out .exit)) ⌝ }
 {
     let n = sheet_end(input);

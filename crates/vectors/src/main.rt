@@ -8,8 +8,6 @@ ghost use mathlib.Core.Path.{_≡_};
 ghost use Prim.Native.Nat.{_+_, _≤_, _<_};
 ghost use lib.ListN.{length};
 
-mod calls;
-
 pub enum Verdict {
     Program,
     Library,

@@ -1,12 +1,12 @@
 use native.Mathlib.Omega.{arith}
 use borrow.Author.Needs.{needs}
-use Rattle.vectors.proofs.calls.put_top.Statement.{statement}
-use Rattle.vectors.proofs.calls.put_top.Tie as tie
-use Rattle.vectors.proofs.calls.put_top.Reads as reads
-use Rattle.vectors.proofs.calls.put_top.Lts as lts
+use Rattle.calls.proofs.put_top.Statement.{statement}
+use Rattle.calls.proofs.put_top.Tie as tie
+use Rattle.calls.proofs.put_top.Reads as reads
+use Rattle.calls.proofs.put_top.Lts as lts
 use Rattle.lines.proofs.put_refused.Reads as put-refused-reads
 use Rattle.lines.proofs.put_text.Reads as put-text-reads
-use Rattle.vectors.proofs.calls.put_set.Reads as put-set-reads
+use Rattle.calls.proofs.put_set.Reads as put-set-reads
 
 -- src/calls.rt:285:29
 enum-told : tie.Need-enum-told

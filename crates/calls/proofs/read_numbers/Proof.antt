@@ -2,13 +2,13 @@ use Prim.Native.Nat.{_+_, _*_, _-_, _≤_}
 use mathlib.Core.Path.{_≡_}
 use lib.ListN.{length}
 use borrow.Author.Needs.{needs}
-use Rattle.vectors.proofs.calls.read_numbers.Statement.{statement}
-use Rattle.vectors.proofs.calls.read_numbers.Tie as tie
-use Rattle.vectors.proofs.calls.read_numbers.Reads as reads
-use Rattle.vectors.proofs.calls.read_numbers.Lts as lts
+use Rattle.calls.proofs.read_numbers.Statement.{statement}
+use Rattle.calls.proofs.read_numbers.Tie as tie
+use Rattle.calls.proofs.read_numbers.Reads as reads
+use Rattle.calls.proofs.read_numbers.Lts as lts
 use Rattle.cells.proofs.numbers.u32_at.Reads as u32-at-reads
 use Rattle.cells.proofs.put32.Reads as put32-reads
-use Rattle.vectors.proofs.calls.least.Reads as least-reads
+use Rattle.calls.proofs.least.Reads as least-reads
 
 abbrev Inv-loop : tie.InvT-loop
 Inv-loop input at n room₀ count i₀ room i = length room ≡ length room₀

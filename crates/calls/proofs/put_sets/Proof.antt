@@ -2,12 +2,12 @@ use Prim.Native.Nat.{_+_, _*_, _-_, _≤_}
 use mathlib.Core.Path.{_≡_}
 use lib.ListN.{length}
 use borrow.Author.Needs.{needs}
-use Rattle.vectors.proofs.calls.put_sets.Statement.{statement}
-use Rattle.vectors.proofs.calls.put_sets.Tie as tie
-use Rattle.vectors.proofs.calls.put_sets.Reads as reads
-use Rattle.vectors.proofs.calls.put_sets.Lts as lts
-use Rattle.vectors.proofs.calls.least.Reads as least-reads
-use Rattle.vectors.proofs.calls.put_set.Reads as put-set-reads
+use Rattle.calls.proofs.put_sets.Statement.{statement}
+use Rattle.calls.proofs.put_sets.Tie as tie
+use Rattle.calls.proofs.put_sets.Reads as reads
+use Rattle.calls.proofs.put_sets.Lts as lts
+use Rattle.calls.proofs.least.Reads as least-reads
+use Rattle.calls.proofs.put_set.Reads as put-set-reads
 
 abbrev Inv-loop : tie.InvT-loop
 Inv-loop out₀ at popped n count next₀ i₀ out next i = (length out ≡ length out₀) × (next ≤ 143360)

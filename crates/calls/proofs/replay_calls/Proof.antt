@@ -2,11 +2,11 @@ use Prim.Native.Nat.{_+_, _*_, _-_, _≤_}
 use mathlib.Core.Path.{_≡_}
 use lib.ListN.{length}
 use borrow.Author.Needs.{needs}
-use Rattle.vectors.proofs.calls.replay_calls.Statement.{statement}
-use Rattle.vectors.proofs.calls.replay_calls.Tie as tie
-use Rattle.vectors.proofs.calls.replay_calls.Reads as reads
-use Rattle.vectors.proofs.calls.replay_calls.Lts as lts
-use Rattle.vectors.proofs.calls.one_call.Reads as one-call-reads
+use Rattle.calls.proofs.replay_calls.Statement.{statement}
+use Rattle.calls.proofs.replay_calls.Tie as tie
+use Rattle.calls.proofs.replay_calls.Reads as reads
+use Rattle.calls.proofs.replay_calls.Lts as lts
+use Rattle.calls.proofs.one_call.Reads as one-call-reads
 
 abbrev Inv-loop : tie.InvT-loop
 Inv-loop input program₀ rows₀ names₀ ids₀ nodes₀ out₀ s₀ left₀ program rows names ids nodes out s left = (length program ≡ length program₀) × (length rows ≡ length rows₀) × (length names ≡ length names₀) × (length ids ≡ length ids₀) × (length nodes ≡ length nodes₀) × (length out ≡ length out₀) × (s .wrote ≤ 131072) × (s .size ≤ length program)
