@@ -1,0 +1,89 @@
+use native.Mathlib.Omega.{arith}
+use borrow.Author.Needs.{needs}
+use Rattle.selectors.proofs.answer_block.Statement.{statement}
+use Rattle.selectors.proofs.answer_block.Tie as tie
+use Rattle.selectors.proofs.answer_block.Reads as reads
+use Rattle.selectors.proofs.answer_block.Lts as lts
+use Rattle.io.proofs.write_all.Reads as write-all-reads
+use Rattle.selectors.proofs.advance.Reads as advance-reads
+use Rattle.trace.proofs.run.feed.Reads as feed-reads
+
+-- src/main.rt:124:61
+sub-feed : tie.Need-sub-feed
+sub-feed c = search needs
+
+-- src/main.rt:124:61
+part-feed-start : tie.Need-part-feed-start
+part-feed-start c = search needs
+
+-- src/main.rt:124:61
+part-feed-end : tie.Need-part-feed-end
+part-feed-end c = search needs
+
+-- src/main.rt:124:9
+feed-requires : tie.Need-feed-requires
+feed-requires c κs = search needs
+
+-- src/main.rt:126:48
+sub-write-all : tie.Need-sub-write-all
+sub-write-all c = search needs
+
+-- src/main.rt:126:48
+part-write-all-start : tie.Need-part-write-all-start
+part-write-all-start c = search needs
+
+-- src/main.rt:126:48
+part-write-all-end : tie.Need-part-write-all-end
+part-write-all-end c = search needs
+
+-- src/main.rt:126:9
+write-all-requires : tie.Need-write-all-requires
+write-all-requires c κs = search needs
+
+-- src/main.rt:127:5
+advance-requires : tie.Need-advance-requires
+advance-requires c κs = search needs
+
+-- src/main.rt:108:1
+same-length : tie.Need-same-length
+same-length c = search needs
+
+-- src/main.rt:108:1
+same-length-2 : tie.Need-same-length-2
+same-length-2 c = search needs
+
+-- src/main.rt:108:1
+same-length-3 : tie.Need-same-length-3
+same-length-3 c = search needs
+
+-- src/main.rt:108:1
+same-length-4 : tie.Need-same-length-4
+same-length-4 c = search needs
+
+-- src/main.rt:108:1
+same-length-5 : tie.Need-same-length-5
+same-length-5 c = search needs
+
+-- src/main.rt:108:1
+returns : tie.Need-returns
+returns c = let e = c .advance .ensures in let b = c .before .before .before .before .before .before .before .before .before .before .before .before .before .before .before .before .before .before .before .before .before .before .before .before .before .before .before .before .before .pre in ((e .0, omega (arith, e .1, b .0 .1)), e .2)
+
+pub answer-block-spec : {M : Type 1} → statement M
+answer-block-spec =
+    tie.close
+    (tie.spec
+    sub-feed
+    part-feed-start
+    part-feed-end
+    feed-requires
+    sub-write-all
+    part-write-all-start
+    part-write-all-end
+    write-all-requires
+    advance-requires
+    same-length
+    same-length-2
+    same-length-3
+    same-length-4
+    same-length-5
+    returns)
