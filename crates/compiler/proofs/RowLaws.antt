@@ -9,7 +9,7 @@ use Rattle.cells.specs.Numbers.{be16}
 use Rattle.meaning.specs.Document.{Link, child, descendant}
 use Rattle.meaning.specs.Trees.{Forest, width, size}
 use Rattle.meaning.specs.Layout.{Instruction, ranges}
-use Rattle.rules.specs.Tests.{readTagTest, readAttributeTest}
+use Rattle.node_tests.specs.Tests.{readTagTest, readAttributeTest}
 use Rattle.sheet.specs.Records.{NodeRecord, recordAt, endOf, tagCount, attributeCount, childCount, descendantCount, testsAt, testsFrom, testsEnd}
 use Rattle.compiler.specs.Program.{nodeKey, words, row, rows}
 use Rattle.compiler.specs.Placing.{instructionAt}

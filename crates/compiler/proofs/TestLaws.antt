@@ -10,8 +10,8 @@ use lib.IntN.{ℤ}
 use lib.ListN.{length, getD}
 use borrow.Author.Tests.{ne-eqb, eqb-true}
 use Rattle.cells.specs.Numbers.{part, be16, i32At}
-use Rattle.rules.specs.Names.{nameKey}
-use Rattle.rules.specs.Tests.{any, unmatchable, localName, nthChild, nthOfType, tagKind, readTagTest}
+use Rattle.names.specs.Names.{nameKey}
+use Rattle.node_tests.specs.Tests.{any, unmatchable, localName, nthChild, nthOfType, tagKind, readTagTest}
 use Rattle.sheet.specs.Records.{recordAt, endOf, testsFrom}
 use Rattle.sheet.specs.Meaning.{ofType}
 use Rattle.sheet.specs.Spelling.{TestsInside, Inside}

@@ -7,8 +7,8 @@ use lib.ListN.{replicate}
 use Rattle.cells.specs.Numbers.{be16, be32}
 use Rattle.meaning.specs.Trees.{size}
 use Rattle.meaning.specs.Layout.{below}
-use Rattle.rules.specs.Names.{hashOf, nameKey}
-use Rattle.rules.specs.Tests.{tagKind, readTagTest}
+use Rattle.names.specs.Names.{hashOf, nameKey}
+use Rattle.node_tests.specs.Tests.{tagKind, readTagTest}
 use Rattle.sheet.specs.Records.{testsFrom, testsEnd, recordAt}
 use Rattle.sheet.specs.Meaning.{ofType}
 use Rattle.sheet.specs.Parser.{thenStep, kindOk, nameLengthOk, comparisonOk, bodyOk, checkTest, checkTests, rising, checkCounts, checkIds, checkRecord, andThen, afterStep, parseTree, parseMany, treeAt, parseTrees, parseEnd, parseSheet}

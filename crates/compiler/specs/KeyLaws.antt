@@ -4,9 +4,9 @@ use mathlib.Core.Path.{_≡_, refl, sym}
 use mathlib.Core.Bool.{Bool, true, false, cond}
 use mathlib.Core.List.{List, [], _∷_}
 use Rattle.meaning.specs.Lists.{every}
-use Rattle.rules.specs.Names.{sameName, nameKey}
-use Rattle.rules.specs.NameLaws.{key-same}
-use Rattle.rules.specs.Tests.{Negatable, TagTest, any, unmatchable, localName, nthChild, nthOfType, tagHolds, opposite, tagTestHolds}
+use Rattle.names.specs.Names.{sameName, nameKey}
+use Rattle.names.specs.NameLaws.{key-same}
+use Rattle.node_tests.specs.Tests.{Negatable, TagTest, any, unmatchable, localName, nthChild, nthOfType, tagHolds, opposite, tagTestHolds}
 use Rattle.compiler.specs.Program.{tagKey, testKey, nodeKey}
 
 -- a comparison that would give equal keys did not hold

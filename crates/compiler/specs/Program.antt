@@ -8,8 +8,8 @@ use Rattle.meaning.specs.Lists.{some}
 use Rattle.meaning.specs.Tests.{of-type-tested}
 use Rattle.meaning.specs.Trees.{Forest, some-node}
 use Rattle.meaning.specs.Layout.{Instruction}
-use Rattle.rules.specs.Names.{nameKey}
-use Rattle.rules.specs.Tests.{Negatable, TagTest, any, unmatchable, localName, nthChild, nthOfType}
+use Rattle.names.specs.Names.{nameKey}
+use Rattle.node_tests.specs.Tests.{Negatable, TagTest, any, unmatchable, localName, nthChild, nthOfType}
 use Rattle.sheet.specs.Records.{NodeRecord}
 use Rattle.sheet.specs.Meaning.{sheetTests}
 

@@ -7,7 +7,7 @@ use native.Mathlib.Omega.{arith}
 use lib.ListN.{getD}
 use Rattle.cells.specs.Numbers.{part, be16}
 use Rattle.rules.specs.Attributes.{Attribute}
-use Rattle.rules.specs.Tests.{tagTestHolds, readTagTest, attributeTestHolds, readAttributeTest}
+use Rattle.node_tests.specs.Tests.{tagTestHolds, readTagTest, attributeTestHolds, readAttributeTest}
 use Rattle.exec.specs.Instructions.{testsEnd, tagTestsHold, attributeTestsHold, tagTestsPass, attributePasses}
 
 module _ (sheet : List ℕ) (n at : ℕ) where

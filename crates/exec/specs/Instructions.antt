@@ -5,7 +5,7 @@ use Prim.Native.Nat.{ℕ, zero, suc, _+_, _/_, _%_}
 use lib.Dec.{eqb}
 use Rattle.cells.specs.Numbers.{part, be16}
 use Rattle.rules.specs.Attributes.{Attribute}
-use Rattle.rules.specs.Tests.{tagTestHolds, readTagTest, attributeTestHolds, readAttributeTest}
+use Rattle.node_tests.specs.Tests.{tagTestHolds, readTagTest, attributeTestHolds, readAttributeTest}
 use Rattle.exec.specs.Cursors.{rowWord}
 
 -- An instruction has no name key, or the tag's.

@@ -2,8 +2,8 @@
 use cells::at32;
 use cells::numbers::u16_at;
 use cells::part_of;
-use rules::tests::attribute_test;
-use rules::tests::tag_test;
+use node_tests::attribute_test;
+use node_tests::tag_test;
 ghost use mathlib.Core.Path.{_≡_};
 ghost use Prim.Native.Nat.{_<_, _^_};
 ghost use Rattle.rules.specs.Attributes.{attributesOf};

@@ -8,8 +8,8 @@ use borrow.Author.Tests.{lt-ltb, le-ltb, ltb-true, ltb-false, eq-eqb, ne-eqb}
 use lib.Dec.{eqb, ltb}
 use lib.ListN.{length, getD, take, drop, length-map}
 use Rattle.cells.specs.Stretches.{written, length-cells}
-use Rattle.rules.specs.Bytes.{lowerOf}
-use Rattle.rules.specs.Names.{voidName}
+use Rattle.names.specs.Bytes.{lowerOf}
+use Rattle.names.specs.Names.{voidName}
 use Rattle.meaning.specs.Trees.{Forest, size}
 use Rattle.sheet.specs.Records.{NodeRecord}
 use Rattle.sheet.specs.Parser.{Parsed, refused, read, parseSheet}

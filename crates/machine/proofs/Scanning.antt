@@ -10,7 +10,7 @@ use borrow.Author.Tests.{not-true, not-false}
 use lib.ListN.{length, getD, take, drop, set, length-append, length-take}
 use lib.Seq.{sets, sets-eq, take-at}
 use Rattle.cells.specs.Stretches.{written, length-cells}
-use Rattle.rules.specs.Names.{nameKey}
+use Rattle.names.specs.Names.{nameKey}
 use Rattle.rules.specs.Attributes.{Attribute, attributesOf}
 use Rattle.sheet.specs.Parser.{nodeCount, rootCount}
 use Rattle.stack.specs.Stores.{heldKind, heldFound, foundFrom}

@@ -4,8 +4,8 @@ use mathlib.Core.List.{List, [], _∷_, _++_, map}
 use Prim.Native.Nat.{ℕ, _+_, _-_, _*_, _/_, _%_}
 use lib.Dec.{eqb, ltb}
 use lib.ListN.{length, getD}
-use Rattle.rules.specs.Bytes.{lowerOf}
-use Rattle.rules.specs.Names.{voidName, nameKey}
+use Rattle.names.specs.Bytes.{lowerOf}
+use Rattle.names.specs.Names.{voidName, nameKey}
 use Rattle.rules.specs.Attributes.{attributesOf}
 use Rattle.sheet.specs.Parser.{nodeCount, rootCount, parseSheet}
 use Rattle.compiler.specs.Compiler.{compiledOf, storeOf}

@@ -1,5 +1,3 @@
 pub mod Signed
-pub mod Table
 pub mod Turns
 pub mod OutlineTurns
-pub mod TestLaws

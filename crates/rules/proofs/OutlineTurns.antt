@@ -9,8 +9,8 @@ use native.Mathlib.Omega.{arith}
 use lib.ListN.{length, getD, drop, length-drop, drop-of-length-le}
 use lib.Seq.{drop-cons}
 use Rattle.cells.specs.Numbers.{part}
-use Rattle.rules.specs.Bytes.{fold, sameBytes}
-use Rattle.rules.specs.BytesLaws.{fold-false}
+use Rattle.names.specs.Bytes.{fold, sameBytes}
+use Rattle.names.specs.BytesLaws.{fold-false}
 use Rattle.rules.specs.Attributes.{attributesOf, liesWithin, wellFormed, lookup, isThere, findIn}
 use Rattle.rules.specs.Operators.{operatorHolds, valueHolds}
 use Rattle.rules.specs.declared.attribute_matcher.Found.{Found}

@@ -11,8 +11,8 @@ use lib.Dec.{eqb}
 use lib.ListN.{length, getD, take, drop, drop-of-length-le, List·getD-eq-default, length-take, length-drop}
 use lib.Seq.{drop-cons, take-all, take-nil, take-suc, getD-drop}
 use Rattle.cells.specs.Numbers.{part}
-use Rattle.rules.specs.Bytes.{sameBytes, spaceByte}
-use Rattle.rules.specs.BytesLaws.{same-long}
+use Rattle.names.specs.Bytes.{sameBytes, spaceByte}
+use Rattle.names.specs.BytesLaws.{same-long}
 use Rattle.rules.specs.Operators.{emptyBytes, beginsWith, prefixHolds, suffixHolds, dashHolds, containsBytes, substringHolds, parts, split, somePart, includesHolds}
 
 empty-yes : (v : List ℕ) → length v ≡ 0 → emptyBytes v ≡ true

@@ -8,8 +8,8 @@ use Prim.Native.Nat.{ℕ}
 use native.Mathlib.Omega.{arith}
 use lib.Dec.{T}
 use lib.ListN.{length}
-use Rattle.rules.specs.Bytes.{fold, sameBytes}
-use Rattle.rules.specs.BytesLaws.{fold-false, same-law}
+use Rattle.names.specs.Bytes.{fold, sameBytes}
+use Rattle.names.specs.BytesLaws.{fold-false, same-law}
 use Rattle.rules.specs.Attributes.{Attribute, lookup, isThere}
 
 -- The value is that of the first attribute whose lower-cased name is the wanted one.

@@ -1,15 +1,8 @@
-pub mod Bytes
-pub mod Names
 pub mod Nth
 pub mod Attributes
 pub mod Operators
-pub mod Tests
 pub mod Standard
-pub mod BytesLaws
 pub mod NthLaws
 pub mod SplitLaws
 pub mod OperatorLaws
-pub mod NameLaws
 pub mod AttributeLaws
-pub mod Exceptions
-pub mod Examples

@@ -9,8 +9,8 @@ use borrow.Author.Tests.{eq-eqb, ne-eqb, leb-true}
 use lib.Dec.{T, eqb, leb, eqb→eq, eqb-refl}
 use lib.ListN.{length, getD, take, drop, length-map, length-append, length-drop, take-append-drop, List·getD-map}
 use lib.Seq.{drop-cons, take-at, drop-at, getD-at}
-use Rattle.rules.specs.Bytes.{sameBytes, foldByte, fold, spaceByte}
-use Rattle.rules.specs.BytesLaws.{and-both, and-left, and-right, or-cases, or-left, or-right, holds, same-law}
+use Rattle.names.specs.Bytes.{sameBytes, foldByte, fold, spaceByte}
+use Rattle.names.specs.BytesLaws.{and-both, and-left, and-right, or-cases, or-left, or-right, holds, same-law}
 use Rattle.rules.specs.Operators.{emptyBytes, equalHolds, beginsWith, prefixHolds, suffixHolds, dashHolds, containsBytes, substringHolds, parts, split, somePart, includesHolds}
 use Rattle.rules.specs.SplitLaws.{part-law}
 use Rattle.rules.specs.Standard.{Equal, Prefix, Suffix, Substring, Dash, Clear, Part, Includes}

@@ -6,7 +6,7 @@ use mathlib.Core.Option.{Option, none, some}
 use Prim.Native.Nat.{ℕ, _-_}
 use lib.Dec.{eqb}
 use lib.ListN.{length, take, drop, getD}
-use Rattle.rules.specs.Bytes.{sameBytes, spaceByte}
+use Rattle.names.specs.Bytes.{sameBytes, spaceByte}
 use Rattle.rules.specs.declared.attribute_matcher.Operator.{Operator}
 use Rattle.rules.specs.declared.attribute_matcher.Operator.the-variants.{Equal, Includes, Dash, Prefix, Suffix, Substring}
 

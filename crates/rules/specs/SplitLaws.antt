@@ -7,7 +7,7 @@ use Prim.Native.Nat.{ℕ, suc, _+_}
 use native.Mathlib.Omega.{arith}
 use lib.Dec.{T}
 use lib.ListN.{length}
-use Rattle.rules.specs.Bytes.{spaceByte}
+use Rattle.names.specs.Bytes.{spaceByte}
 use Rattle.rules.specs.Operators.{parts, split}
 use Rattle.rules.specs.Standard.{Clear, Before, After, Part}
 

@@ -5,7 +5,7 @@ use mathlib.Core.Logic.{_⊎_}
 use mathlib.Core.Bool.{Bool, true, false}
 use mathlib.Core.List.{List, [], _∷_, _++_, List·Memᴰ}
 use Prim.Native.Nat.{ℕ}
-use Rattle.rules.specs.Bytes.{fold, spaceByte}
+use Rattle.names.specs.Bytes.{fold, spaceByte}
 use Rattle.rules.specs.Attributes.{Attribute}
 
 -- [att=val]: the value is exactly val.

@@ -1,10 +1,10 @@
 //! Attributes: the lookup by name and the operators on values.
-use crate::bytes::is_attr_whitespace;
-use crate::bytes::same;
 use cells::at32;
 use cells::part_of;
+use names::bytes::is_attr_whitespace;
+use names::bytes::same;
 ghost use mathlib.Core.Path.{_≡_};
-ghost use Rattle.rules.specs.Bytes.{fold};
+ghost use Rattle.names.specs.Bytes.{fold};
 ghost use Rattle.rules.specs.Attributes.{liesWithin, wellFormed, goodOutlines, findIn, lookup, attributesOf, isThere};
 ghost use Rattle.rules.specs.Operators.{equalHolds, beginsWith, prefixHolds, suffixHolds, dashHolds, substringHolds, includesHolds, operatorHolds, valueHolds};
 

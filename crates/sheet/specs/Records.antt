@@ -3,7 +3,7 @@ use mathlib.Core.List.{List, [], _∷_, map}
 use Prim.Native.Nat.{ℕ, zero, suc, _+_}
 use lib.ListN.{getD}
 use Rattle.cells.specs.Numbers.{part, be16}
-use Rattle.rules.specs.Tests.{Negatable, TagTest, AttributeTest, readTagTest, readAttributeTest}
+use Rattle.node_tests.specs.Tests.{Negatable, TagTest, AttributeTest, readTagTest, readAttributeTest}
 
 -- Where the record or test at a place ends: its length counts what follows the length field.
 abbrev pub endOf : List ℕ → ℕ → ℕ

@@ -9,7 +9,7 @@ use borrow.Author.Tests.{eq-eqb, ne-eqb}
 use lib.ListN.{length, getD, set, drop, drop-of-length-le}
 use lib.Seq.{drop-cons}
 use Rattle.cells.specs.Stretches.{cellsFrom, written, length-cells}
-use Rattle.rules.specs.BytesLaws.{equal-ne}
+use Rattle.names.specs.BytesLaws.{equal-ne}
 use Rattle.stack.specs.Stores.{holdsName, findPair, pairOf, pairNameAt, pairAt, rowWord, opens, pairsTop}
 
 -- ---- copying

@@ -10,7 +10,7 @@ use lib.Dec.{ltb, leb, eqb}
 use lib.ListN.{length, getD, drop, set, drop-of-length-le}
 use lib.Seq.{drop-cons}
 use Rattle.cells.specs.Stretches.{written}
-use Rattle.rules.specs.Bytes.{lowerOf}
+use Rattle.names.specs.Bytes.{lowerOf}
 use Rattle.stack.specs.Stores.{bearers, childBlock}
 
 module _ (limit r x : ℕ) (e : r ≡ x) where

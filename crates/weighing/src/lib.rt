@@ -4,14 +4,14 @@ use cells::get32;
 use cells::numbers::u16_at;
 use cells::put8;
 use items::count_parents;
+use names::bytes::lower;
 use rules::attribute_matcher::good_outlines;
-use rules::bytes::lower;
 use stack::counters::child_count;
 use stack::counters::is_known;
 ghost use mathlib.Core.Path.{_≡_};
 ghost use mathlib.Core.List.{map};
 ghost use Rattle.cells.specs.Stretches.{written};
-ghost use Rattle.rules.specs.Bytes.{lowerOf};
+ghost use Rattle.names.specs.Bytes.{lowerOf};
 ghost use Rattle.stack.specs.Stores.{stores};
 ghost use Rattle.weighing.specs.Weighing.{esiOn, typesCounted, sized, headerShaped, shaped, stateRefusal, badName, tagRefusal, pairsFull, pushRefusal, attributesRefusal, endRefusal};
 

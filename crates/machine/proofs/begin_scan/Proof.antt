@@ -11,7 +11,7 @@ use Rattle.machine.proofs.first_live.Reads as first-live-reads
 use Rattle.machine.proofs.is_html.Reads as is-html-reads
 use Rattle.machine.proofs.live_ranges.Reads as live-ranges-reads
 use Rattle.machine.proofs.type_position.Reads as type-position-reads
-use Rattle.rules.proofs.names.name_key.Reads as name-key-reads
+use Rattle.names.proofs.name_key.Reads as name-key-reads
 
 -- src/lib.rt:187:9
 first-live-requires : tie.Need-first-live-requires

@@ -12,7 +12,7 @@ use Rattle.machine.proofs.held_cursor.Reads as held-cursor-reads
 use Rattle.machine.proofs.is_html.Reads as is-html-reads
 use Rattle.machine.proofs.live_ranges.Reads as live-ranges-reads
 use Rattle.machine.proofs.type_position.Reads as type-position-reads
-use Rattle.rules.proofs.names.name_key.Reads as name-key-reads
+use Rattle.names.proofs.name_key.Reads as name-key-reads
 use Rattle.stack.proofs.waiting.held_found.Reads as held-found-reads
 
 -- src/lib.rt:439:9

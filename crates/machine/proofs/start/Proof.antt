@@ -11,7 +11,7 @@ use Rattle.machine.proofs.start.Lts as lts
 use Rattle.machine.proofs.kind_of.Reads as kind-of-reads
 use Rattle.machine.proofs.refused.Reads as refused-reads
 use Rattle.machine.proofs.start_lowered.Reads as start-lowered-reads
-use Rattle.rules.proofs.names.is_void.Reads as is-void-reads
+use Rattle.names.proofs.is_void.Reads as is-void-reads
 use Rattle.weighing.proofs.is_esi_on.Reads as is-esi-on-reads
 use Rattle.weighing.proofs.lower_into.Reads as lower-into-reads
 use Rattle.weighing.proofs.state_refusal.Reads as state-refusal-reads

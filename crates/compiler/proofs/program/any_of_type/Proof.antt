@@ -1,7 +1,7 @@
 use native.Mathlib.Omega.{arith}
 use mathlib.Core.Path.{_≡_, refl, sym, _∙_}
 use mathlib.Core.List.{map}
-use Rattle.rules.specs.Tests.{readTagTest}
+use Rattle.node_tests.specs.Tests.{readTagTest}
 use Rattle.sheet.specs.Records.{testsFrom}
 use Rattle.sheet.specs.Spelling.{TestsInside}
 use Rattle.compiler.specs.Program.{anyOfType}

@@ -8,7 +8,7 @@ use Rattle.compiler.proofs.program.test_key.Reads as reads
 use Rattle.compiler.proofs.program.test_key.Lts as lts
 use Rattle.cells.proofs.at8.Reads as at8-reads
 use Rattle.cells.proofs.part_of.Reads as part-of-reads
-use Rattle.rules.proofs.names.name_key.Reads as name-key-reads
+use Rattle.names.proofs.name_key.Reads as name-key-reads
 
 -- src/program.rt:22:8
 at8-requires : tie.Need-at8-requires

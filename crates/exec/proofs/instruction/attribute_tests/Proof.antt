@@ -12,7 +12,7 @@ use Rattle.exec.proofs.instruction.attribute_tests.Reads as reads
 use Rattle.exec.proofs.instruction.attribute_tests.Lts as lts
 use Rattle.cells.proofs.numbers.u16_at.Reads as u16-at-reads
 use Rattle.cells.proofs.part_of.Reads as part-of-reads
-use Rattle.rules.proofs.tests.attribute_test.Reads as attribute-test-reads
+use Rattle.node_tests.proofs.attribute_test.Reads as attribute-test-reads
 
 abbrev Inv-loop : tie.InvT-loop
 Inv-loop sheet input outlines html count from left₀ at₀ left at = (at + left * 65537 ≤ from + count * 65537) × (attributeTestsHold sheet html (attributesOf input outlines) count from ≡ attributeTestsHold sheet html (attributesOf input outlines) left at)

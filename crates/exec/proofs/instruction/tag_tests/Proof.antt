@@ -11,7 +11,7 @@ use Rattle.exec.proofs.instruction.tag_tests.Reads as reads
 use Rattle.exec.proofs.instruction.tag_tests.Lts as lts
 use Rattle.cells.proofs.numbers.u16_at.Reads as u16-at-reads
 use Rattle.cells.proofs.part_of.Reads as part-of-reads
-use Rattle.rules.proofs.tests.tag_test.Reads as tag-test-reads
+use Rattle.node_tests.proofs.tag_test.Reads as tag-test-reads
 
 abbrev Inv-loop : tie.InvT-loop
 Inv-loop sheet name child of-type count from left₀ at₀ left at = (at + left * 65537 ≤ from + count * 65537) × (tagTestsHold sheet name child of-type count from ≡ tagTestsHold sheet name child of-type left at)

@@ -5,7 +5,7 @@ use Rattle.rules.proofs.attribute_matcher.begins.Tie as tie
 use Rattle.rules.proofs.attribute_matcher.begins.Reads as reads
 use Rattle.rules.proofs.attribute_matcher.begins.Lts as lts
 use Rattle.cells.proofs.part_of.Reads as part-of-reads
-use Rattle.rules.proofs.bytes.same.Reads as same-reads
+use Rattle.names.proofs.bytes.same.Reads as same-reads
 
 -- src/attribute_matcher.rt:96:10
 part-of-requires : tie.Need-part-of-requires

@@ -11,7 +11,7 @@ use Rattle.rules.proofs.attribute_matcher.has_attr_with_substring.Reads
 use Rattle.rules.proofs.attribute_matcher.has_attr_with_suffix.Reads as has-attr-with-suffix-reads
 use Rattle.rules.proofs.attribute_matcher.has_dash_matching_attr.Reads as has-dash-matching-attr-reads
 use Rattle.rules.proofs.attribute_matcher.matches_splitted_by_whitespace.Reads as matches-splitted-by-whitespace-reads
-use Rattle.rules.proofs.bytes.same.Reads as same-reads
+use Rattle.names.proofs.bytes.same.Reads as same-reads
 
 -- src/attribute_matcher.rt:184:28
 enum-told : tie.Need-enum-told

@@ -2,7 +2,7 @@ use mathlib.Core.Path.{_≡_, refl, sym, ap, _∙_}
 use Prim.Native.Nat.{_-_, _≤_}
 use native.Mathlib.Omega.{arith}
 use lib.ListN.{length, drop}
-use Rattle.rules.specs.Bytes.{fold}
+use Rattle.names.specs.Bytes.{fold}
 use Rattle.rules.specs.Attributes.{findIn}
 use Rattle.rules.specs.declared.attribute_matcher.Found.{Found}
 use Rattle.rules.proofs.OutlineTurns.{named, found-short, found-here, found-later}
@@ -13,7 +13,7 @@ use Rattle.rules.proofs.attribute_matcher.find.Reads as reads
 use Rattle.rules.proofs.attribute_matcher.find.Lts as lts
 use Rattle.cells.proofs.at32.Reads as at32-reads
 use Rattle.cells.proofs.part_of.Reads as part-of-reads
-use Rattle.rules.proofs.bytes.same.Reads as same-reads
+use Rattle.names.proofs.bytes.same.Reads as same-reads
 
 abbrev Inv-loop : tie.InvT-loop
 Inv-loop input outlines name ignore i₀ i = (i ≤ length outlines) × (findIn input (fold ignore name) outlines ≡ findIn input (fold ignore name) (drop i outlines))

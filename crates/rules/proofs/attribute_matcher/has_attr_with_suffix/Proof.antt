@@ -5,7 +5,7 @@ use Rattle.rules.proofs.attribute_matcher.has_attr_with_suffix.Statemen
 use Rattle.rules.proofs.attribute_matcher.has_attr_with_suffix.Tie as tie
 use Rattle.rules.proofs.attribute_matcher.has_attr_with_suffix.Reads as reads
 use Rattle.rules.proofs.attribute_matcher.has_attr_with_suffix.Lts as lts
-use Rattle.rules.proofs.bytes.same.Reads as same-reads
+use Rattle.names.proofs.bytes.same.Reads as same-reads
 
 -- src/attribute_matcher.rt:114:9
 returns : tie.Need-returns

@@ -6,7 +6,7 @@ use Rattle.rules.proofs.attribute_matcher.has_dash_matching_attr.Tie as
 use Rattle.rules.proofs.attribute_matcher.has_dash_matching_attr.Reads as reads
 use Rattle.rules.proofs.attribute_matcher.has_dash_matching_attr.Lts as lts
 use Rattle.rules.proofs.attribute_matcher.begins.Reads as begins-reads
-use Rattle.rules.proofs.bytes.same.Reads as same-reads
+use Rattle.names.proofs.bytes.same.Reads as same-reads
 
 -- src/attribute_matcher.rt:128:8
 same-requires : tie.Need-same-requires

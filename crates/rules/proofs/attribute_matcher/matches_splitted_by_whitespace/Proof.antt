@@ -12,8 +12,8 @@ use Rattle.rules.proofs.attribute_matcher.matches_splitted_by_whitespac
 use Rattle.rules.proofs.attribute_matcher.matches_splitted_by_whitespace.Tie as tie
 use Rattle.rules.proofs.attribute_matcher.matches_splitted_by_whitespace.Reads as reads
 use Rattle.rules.proofs.attribute_matcher.matches_splitted_by_whitespace.Lts as lts
-use Rattle.rules.proofs.bytes.is_attr_whitespace.Reads as is-attr-whitespace-reads
-use Rattle.rules.proofs.bytes.same.Reads as same-reads
+use Rattle.names.proofs.bytes.is_attr_whitespace.Reads as is-attr-whitespace-reads
+use Rattle.names.proofs.bytes.same.Reads as same-reads
 
 abbrev Inv-loop : tie.InvT-loop
 Inv-loop value operand f start₀ i₀ start i = (start ≤ i) × ((i ≤ length value) × (includesHolds f value operand ≡ somePart f operand (parts (take (i - start) (drop start value)) (drop i value))))
