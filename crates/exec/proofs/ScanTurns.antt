@@ -5,16 +5,16 @@ use mathlib.Core.List.{List, [], _∷_}
 use Prim.Native.Nat.{ℕ, _+_, _<_, _^_}
 use native.Mathlib.Nat.{add-zero}
 use native.Mathlib.Omega.{arith}
-use lib.ListN.{length, set, take}
+use lib.ListN.{length, set}
 use Rattle.cells.specs.Stretches.{written}
 use Rattle.rules.specs.Attributes.{Attribute}
 use Rattle.exec.specs.declared.cursor.Cursor.{Cursor}
 use Rattle.exec.specs.declared.cursor.Ranges.{Ranges}
-use Rattle.exec.specs.declared.scan.Candidate.{Candidate}
-use Rattle.exec.specs.Cursors.{cursorOf, afterCursor, rest, ats}
+use Rattle.exec.specs.declared.scan.Live.{Live}
+use Rattle.exec.specs.Cursors.{cursorOf, afterCursor, ats}
 use Rattle.exec.specs.Instructions.{keyFits, tagTestsPass, tagPasses, attributePasses, asks}
-use Rattle.exec.specs.Scans.{keep, Sought, over, stopped, foundToo, seek, foundIn, answerFrom, tagScan, allPass, attributeScan}
-use Rattle.exec.specs.Searching.{fromKeyed, Reached}
+use Rattle.exec.specs.Scans.{keep, Sought, over, stopped, foundToo, seek, foundIn, answerFrom, live, tagScan, allPass, attributeScan}
+use Rattle.exec.specs.Searching.{fromKeyed, Within}
 
 -- ---- instructions whose key does not fit change nothing
 
@@ -37,29 +37,29 @@ module _ (program : List ℕ) (key : ℕ) (passes : ℕ → Bool) (no : (a : ℕ
       go true e ih = refl
       go false e ih = rw (no (c .at) e) ih
 
--- ---- the candidate
+-- ---- the next live instruction
 
-module _ (program nodes : List ℕ) (ranges : Ranges) (key : ℕ) (c : Cursor) (left : ℕ) where
+module _ (program nodes : List ℕ) (ranges : Ranges) (key : ℕ) (c : Cursor) (left tests : ℕ) where
   -- what an answer of the search says
-  pub record At (d : Cursor) (more : ℕ) : Type 0 where
-    pub list : fromKeyed program key (take left (rest program nodes ranges c)) ≡ d ∷ take more (rest program nodes ranges (afterCursor d))
+  pub record At (d : Cursor) (more rest : ℕ) : Type 0 where
+    pub list : fromKeyed program key (live program nodes ranges key c left tests) ≡ d ∷ live program nodes ranges key (afterCursor d) more rest
     pub fits : keyFits program key (d .at) ≡ true
     pub below : d .at < 2 ^ 16
     pub less : more < left
 
-  pub reached-at : (r : Candidate) (d : Cursor) (more : ℕ) → Reached program nodes ranges key c left r → r ≡ Candidate.At d more → At d more
-  unfolding Reached
-  reached-at r d more h e =
-      let g : Reached program nodes ranges key c left (Candidate.At d more) = subst (Reached program nodes ranges key c left) e h in
+  pub reached-at : (r : Live) (d : Cursor) (more rest : ℕ) → Within program nodes ranges key c left tests r → r ≡ Live.At d more rest → At d more rest
+  unfolding Within
+  reached-at r d more rest h e =
+      let g : Within program nodes ranges key c left tests (Live.At d more rest) = subst (Within program nodes ranges key c left tests) e h in
       record { list = g .0; fits = g .1 .0; below = g .1 .1 .0; less = g .1 .1 .1 }
 
-  pub reached-over : (r : Candidate) → Reached program nodes ranges key c left r → r ≡ Candidate.Over → fromKeyed program key (take left (rest program nodes ranges c)) ≡ []
-  unfolding Reached
-  reached-over r h e = subst (Reached program nodes ranges key c left) e h
+  pub reached-over : (r : Live) → Within program nodes ranges key c left tests r → r ≡ Live.Over → fromKeyed program key (live program nodes ranges key c left tests) ≡ []
+  unfolding Within
+  reached-over r h e = subst (Within program nodes ranges key c left tests) e h
 
 -- ---- the scan by the tag alone
 
-module _ (sheet program nodes : List ℕ) (ranges : Ranges) (name : List ℕ) (key child ofType : ℕ) (c : Cursor) (left : ℕ) where
+module _ (sheet program nodes : List ℕ) (ranges : Ranges) (name : List ℕ) (key child ofType : ℕ) (c : Cursor) (left tests : ℕ) where
   no-key : (a : ℕ) → keyFits program key a ≡ false → tagPasses sheet program name key child ofType a ≡ false
   unfolding tagPasses
   no-key a e = rw e
@@ -68,27 +68,27 @@ module _ (sheet program nodes : List ℕ) (ranges : Ranges) (name : List ℕ) (k
   unfolding tagPasses
   keyed a b e f = rw e (sym f)
 
-  keyed-scan : (cs : List Cursor) → fromKeyed program key (take left (rest program nodes ranges c)) ≡ cs → tagScan sheet program nodes ranges name key child ofType c left ≡ seek (tagPasses sheet program name key child ofType) (asks program) cs
+  keyed-scan : (cs : List Cursor) → fromKeyed program key (live program nodes ranges key c left tests) ≡ cs → tagScan sheet program nodes ranges name key child ofType c left tests ≡ seek (tagPasses sheet program name key child ofType) (asks program) cs
   unfolding tagScan
-  keyed-scan cs e = seek-keyed program key (tagPasses sheet program name key child ofType) no-key (asks program) (take left (rest program nodes ranges c)) ∙ ap (seek (tagPasses sheet program name key child ofType) (asks program)) e
+  keyed-scan cs e = seek-keyed program key (tagPasses sheet program name key child ofType) no-key (asks program) (live program nodes ranges key c left tests) ∙ ap (seek (tagPasses sheet program name key child ofType) (asks program)) e
 
-  pub tag-over : fromKeyed program key (take left (rest program nodes ranges c)) ≡ [] → tagScan sheet program nodes ranges name key child ofType c left ≡ over []
+  pub tag-over : fromKeyed program key (live program nodes ranges key c left tests) ≡ [] → tagScan sheet program nodes ranges name key child ofType c left tests ≡ over []
   unfolding seek
   tag-over e = keyed-scan [] e
 
-  module _ (d : Cursor) (more : ℕ) (at : At program nodes ranges key c left d more) (passes : Bool) (tests : passes ≡ tagTestsPass sheet program name child ofType (d .at)) (next : Cursor) (stepped : next ≡ afterCursor d) where
-    pub tag-fails : passes ≡ false → tagScan sheet program nodes ranges name key child ofType c left ≡ tagScan sheet program nodes ranges name key child ofType next more
+  module _ (d : Cursor) (more rest : ℕ) (at : At program nodes ranges key c left tests d more rest) (passes : Bool) (tested : passes ≡ tagTestsPass sheet program name child ofType (d .at)) (next : Cursor) (stepped : next ≡ afterCursor d) where
+    pub tag-fails : passes ≡ false → tagScan sheet program nodes ranges name key child ofType c left tests ≡ tagScan sheet program nodes ranges name key child ofType next more rest
     unfolding seek tagScan
-    tag-fails e = rw stepped (keyed-scan _ (at .list) ∙ rw (keyed (d .at) passes (at .fits) tests, e))
+    tag-fails e = rw stepped (keyed-scan _ (at .list) ∙ rw (keyed (d .at) passes (at .fits) tested, e))
 
     module _ (asking : Bool) (asked : asking ≡ asks program (d .at)) where
-      pub tag-stops : passes ≡ true → asking ≡ true → tagScan sheet program nodes ranges name key child ofType c left ≡ stopped [] d
+      pub tag-stops : passes ≡ true → asking ≡ true → tagScan sheet program nodes ranges name key child ofType c left tests ≡ stopped [] d
       unfolding seek
-      tag-stops e f = keyed-scan _ (at .list) ∙ rw (keyed (d .at) passes (at .fits) tests, e, ← asked, f)
+      tag-stops e f = keyed-scan _ (at .list) ∙ rw (keyed (d .at) passes (at .fits) tested, e, ← asked, f)
 
-      pub tag-finds : passes ≡ true → asking ≡ false → tagScan sheet program nodes ranges name key child ofType c left ≡ foundToo (d .at) (tagScan sheet program nodes ranges name key child ofType next more)
+      pub tag-finds : passes ≡ true → asking ≡ false → tagScan sheet program nodes ranges name key child ofType c left tests ≡ foundToo (d .at) (tagScan sheet program nodes ranges name key child ofType next more rest)
       unfolding seek tagScan
-      tag-finds e f = rw stepped (keyed-scan _ (at .list) ∙ rw (keyed (d .at) passes (at .fits) tests, e, ← asked, f))
+      tag-finds e f = rw stepped (keyed-scan _ (at .list) ∙ rw (keyed (d .at) passes (at .fits) tested, e, ← asked, f))
 
 answer-too : (count a : ℕ) (t : Sought) → answerFrom count (foundToo a t) ≡ answerFrom (count + 1) t
 unfolding answerFrom foundToo
@@ -121,9 +121,9 @@ module _ (found₀ : List ℕ) (whole : Sought) (found : List ℕ) (count : ℕ)
 
 -- ---- the scan with attributes
 
-module _ (sheet program nodes : List ℕ) (ranges : Ranges) (name : List ℕ) (key child ofType : ℕ) (html : Bool) (attributes : List Attribute) (c : Cursor) (left : ℕ) where
-  abbrev scanned : Cursor → ℕ → List ℕ
-  scanned x n = attributeScan sheet program nodes ranges name key child ofType html attributes x n
+module _ (sheet program nodes : List ℕ) (ranges : Ranges) (name : List ℕ) (key child ofType : ℕ) (html : Bool) (attributes : List Attribute) (c : Cursor) (left tests : ℕ) where
+  abbrev scanned : Cursor → ℕ → ℕ → List ℕ
+  scanned x n m = attributeScan sheet program nodes ranges name key child ofType html attributes x n m
 
   no-key-all : (a : ℕ) → keyFits program key a ≡ false → allPass sheet program name key child ofType html attributes a ≡ false
   unfolding allPass tagPasses
@@ -133,27 +133,27 @@ module _ (sheet program nodes : List ℕ) (ranges : Ranges) (name : List ℕ) (k
   unfolding allPass tagPasses
   keyed-all a b e f = rw (e, ← f)
 
-  keyed-keep : (cs : List Cursor) → fromKeyed program key (take left (rest program nodes ranges c)) ≡ cs → scanned c left ≡ keep (allPass sheet program name key child ofType html attributes) (ats cs)
+  keyed-keep : (cs : List Cursor) → fromKeyed program key (live program nodes ranges key c left tests) ≡ cs → scanned c left tests ≡ keep (allPass sheet program name key child ofType html attributes) (ats cs)
   unfolding attributeScan
-  keyed-keep cs e = keep-keyed program key (allPass sheet program name key child ofType html attributes) no-key-all (take left (rest program nodes ranges c)) ∙ ap (λ l. keep (allPass sheet program name key child ofType html attributes) (ats l)) e
+  keyed-keep cs e = keep-keyed program key (allPass sheet program name key child ofType html attributes) no-key-all (live program nodes ranges key c left tests) ∙ ap (λ l. keep (allPass sheet program name key child ofType html attributes) (ats l)) e
 
-  pub all-over : fromKeyed program key (take left (rest program nodes ranges c)) ≡ [] → scanned c left ≡ []
+  pub all-over : fromKeyed program key (live program nodes ranges key c left tests) ≡ [] → scanned c left tests ≡ []
   unfolding keep
   all-over e = keyed-keep [] e
 
-  module _ (d : Cursor) (more : ℕ) (at : At program nodes ranges key c left d more) (passes : Bool) (tests : passes ≡ tagTestsPass sheet program name child ofType (d .at)) (next : Cursor) (stepped : next ≡ afterCursor d) where
-    pub tag-refuses : passes ≡ false → scanned c left ≡ scanned next more
+  module _ (d : Cursor) (more rest : ℕ) (at : At program nodes ranges key c left tests d more rest) (passes : Bool) (tested : passes ≡ tagTestsPass sheet program name child ofType (d .at)) (next : Cursor) (stepped : next ≡ afterCursor d) where
+    pub tag-refuses : passes ≡ false → scanned c left tests ≡ scanned next more rest
     unfolding keep attributeScan
-    tag-refuses e = rw stepped (keyed-keep _ (at .list) ∙ rw (keyed-all (d .at) passes (at .fits) tests, e))
+    tag-refuses e = rw stepped (keyed-keep _ (at .list) ∙ rw (keyed-all (d .at) passes (at .fits) tested, e))
 
     module _ (holds : Bool) (held : holds ≡ attributePasses sheet program html attributes (d .at)) where
-      pub attributes-refuse : passes ≡ true → holds ≡ false → scanned c left ≡ scanned next more
+      pub attributes-refuse : passes ≡ true → holds ≡ false → scanned c left tests ≡ scanned next more rest
       unfolding keep attributeScan
-      attributes-refuse e f = rw stepped (keyed-keep _ (at .list) ∙ rw (keyed-all (d .at) passes (at .fits) tests, e, ← held, f))
+      attributes-refuse e f = rw stepped (keyed-keep _ (at .list) ∙ rw (keyed-all (d .at) passes (at .fits) tested, e, ← held, f))
 
-      pub all-find : passes ≡ true → holds ≡ true → scanned c left ≡ d .at ∷ scanned next more
+      pub all-find : passes ≡ true → holds ≡ true → scanned c left tests ≡ d .at ∷ scanned next more rest
       unfolding keep attributeScan
-      all-find e f = rw stepped (keyed-keep _ (at .list) ∙ rw (keyed-all (d .at) passes (at .fits) tests, e, ← held, f))
+      all-find e f = rw stepped (keyed-keep _ (at .list) ∙ rw (keyed-all (d .at) passes (at .fits) tested, e, ← held, f))
 
 abbrev pub Adding : ℕ → List ℕ → List ℕ → List ℕ → ℕ → List ℕ → Type 0
 Adding count₀ found₀ whole found count s = (count₀ + length whole ≡ count + length s) × (written found₀ count₀ whole ≡ written found count s)

@@ -4,7 +4,7 @@ use mathlib.Core.Bool.{Bool, true, false, cond}
 use mathlib.Core.List.{List, [], _∷_, _++_}
 use Prim.Native.Nat.{ℕ, suc, _+_, _-_, _≤_}
 use native.Mathlib.Omega.{arith}
-use borrow.Author.Tests.{eqb-true, not-false}
+use borrow.Author.Tests.{eqb-true, not-false, le-ltb}
 use lib.ListN.{length}
 use lib.Seq.{take-all}
 use Rattle.rules.specs.Attributes.{Attribute}
@@ -13,12 +13,30 @@ use Rattle.exec.specs.declared.cursor.Ranges.{Ranges}
 use Rattle.exec.specs.Cursors.{rest, ats}
 use Rattle.exec.specs.CursorLaws.{Own}
 use Rattle.exec.specs.Instructions.{attributeCount, attributeTestsHold, tagPasses, attributePasses, asks}
-use Rattle.exec.specs.Scans.{keep, Sought, over, stopped, foundToo, seek, tagScan, allPass, attributeScan}
+use Rattle.exec.specs.Scans.{keep, Sought, over, stopped, foundToo, seek, testsTaken, withinTests, live, tagScan, allPass, attributeScan}
 
 -- A cursor stands on each address.
 pub length-ats : (cs : List Cursor) → length (ats cs) ≡ length cs
 length-ats [] = refl
 length-ats (c ∷ cs) = ap suc (length-ats cs)
+
+-- ---- the budget of tests
+
+-- The tests that instructions take in all.
+unfoldable pub testsIn : List ℕ → ℕ → List Cursor → ℕ
+testsIn program key [] = 0
+testsIn program key (c ∷ cs) = testsTaken program key (c .at) + testsIn program key cs
+
+-- If they are within the budget, it changes nothing.
+within-all : (program : List ℕ) (key tests : ℕ) (cs : List Cursor) → testsIn program key cs ≤ tests → withinTests program key tests cs ≡ cs
+unfolding testsIn withinTests
+within-all program key tests [] h = refl
+within-all program key tests (c ∷ cs) h = rw (le-ltb tests (testsTaken program key (c .at)) (omega arith)) (ap (λ l. c ∷ l) (within-all program key (tests - testsTaken program key (c .at)) cs (omega arith)))
+
+pub live-all : (program nodes : List ℕ) (ranges : Ranges) (key : ℕ) (from : Cursor) (budget tests : ℕ) → length (rest program nodes ranges from) ≤ budget → testsIn program key (rest program nodes ranges from) ≤ tests
+    → live program nodes ranges key from budget tests ≡ rest program nodes ranges from
+unfolding live
+live-all program nodes ranges key from budget tests fits few = rw (take-all budget (rest program nodes ranges from) fits) (within-all program key tests (rest program nodes ranges from) few)
 
 module _ (program nodes : List ℕ) (ranges : Ranges) where
   -- ---- a scan over cursors is a scan over addresses
@@ -51,20 +69,22 @@ module _ (program nodes : List ℕ) (ranges : Ranges) where
 
   -- ---- stopped and gone on is all at once
 
-  module _ (passes asking all : ℕ → Bool) (less : (a : ℕ) → passes a ≡ false → all a ≡ false) (same : (a : ℕ) → passes a ≡ true → asking a ≡ false → all a ≡ true) where
+  module _ (key : ℕ) (passes asking all : ℕ → Bool) (less : (a : ℕ) → passes a ≡ false → all a ≡ false) (same : (a : ℕ) → passes a ≡ true → asking a ≡ false → all a ≡ true) where
     abbrev Whole : List Cursor → Sought → Type 0
     Whole cs (over found) = keep all (ats cs) ≡ found
-    Whole cs (stopped found c) = (keep all (ats cs) ≡ found ++ keep all (ats (rest program nodes ranges c))) × (length found + length (rest program nodes ranges c) ≤ length cs)
+    Whole cs (stopped found c) =
+        (keep all (ats cs) ≡ found ++ keep all (ats (rest program nodes ranges c)))
+        × ((length found + length (rest program nodes ranges c) ≤ length cs) × (testsIn program key (rest program nodes ranges c) ≤ testsIn program key cs))
 
     skips : (c : Cursor) (cs : List Cursor) (s : Sought) → all (c .at) ≡ false → Whole cs s → Whole (c ∷ cs) s
-    unfolding keep
+    unfolding keep testsIn
     skips c cs (over found) e w = rw e w
-    skips c cs (stopped found d) e w = let z = w .1 in (rw e (w .0), omega arith)
+    skips c cs (stopped found d) e w = let z = w .1 .0 in let y = w .1 .1 in (rw e (w .0), (omega arith, omega arith))
 
     takes : (c : Cursor) (cs : List Cursor) (s : Sought) → all (c .at) ≡ true → Whole cs s → Whole (c ∷ cs) (foundToo (c .at) s)
-    unfolding keep foundToo
+    unfolding keep foundToo testsIn
     takes c cs (over found) e w = rw e (ap (λ l. c .at ∷ l) w)
-    takes c cs (stopped found d) e w = let z = w .1 in (rw e (ap (λ l. c .at ∷ l) (w .0)), omega arith)
+    takes c cs (stopped found d) e w = let z = w .1 .0 in let y = w .1 .1 in (rw e (ap (λ l. c .at ∷ l) (w .0)), (omega arith, omega arith))
 
     whole : (cs : List Cursor) → Own program nodes ranges cs → Whole cs (seek passes asking cs)
     unfolding seek keep
@@ -73,7 +93,7 @@ module _ (program nodes : List ℕ) (ranges : Ranges) where
       where
         go : (a : Bool) → passes (c .at) ≡ a → (b : Bool) → asking (c .at) ≡ b → Whole cs (seek passes asking cs) → Whole (c ∷ cs) (cond a (cond b (stopped [] c) (foundToo (c .at) (seek passes asking cs))) (seek passes asking cs))
         go false p b q w = skips c cs (seek passes asking cs) (less (c .at) p) w
-        go true p true q w = let n = ap length e in (ap (λ l. keep all (ats l)) (sym e), omega arith)
+        go true p true q w = let n = ap length e in let m = ap (testsIn program key) e in (ap (λ l. keep all (ats l)) (sym e), (omega arith, omega arith))
         go true p false q w = takes c cs (seek passes asking cs) (same (c .at) p q) w
 
 module _ (sheet program nodes : List ℕ) (ranges : Ranges) (name : List ℕ) (key child ofType : ℕ) (html : Bool) (attributes : List Attribute) where
@@ -85,35 +105,49 @@ module _ (sheet program nodes : List ℕ) (ranges : Ranges) (name : List ℕ) (k
   unfolding allPass attributePasses attributeTestsHold asks
   same-all a e f = let z : attributeCount program a ≡ 0 = eqb-true _ _ (not-false _ f) in rw (e, z)
 
-  module _ (from : Cursor) (budget : ℕ) (fits : length (rest program nodes ranges from) ≤ budget) where
-    -- If the live instructions fit the budget, it changes nothing.
-    pub tag-scan-all : tagScan sheet program nodes ranges name key child ofType from budget ≡ seek (tagPasses sheet program name key child ofType) (asks program) (rest program nodes ranges from)
-    unfolding tagScan
-    tag-scan-all = rw (take-all budget (rest program nodes ranges from) fits)
+  abbrev passesTag : ℕ → Bool
+  passesTag = tagPasses sheet program name key child ofType
 
-    pub attribute-scan-all : attributeScan sheet program nodes ranges name key child ofType html attributes from budget ≡ keep (allPass sheet program name key child ofType html attributes) (ats (rest program nodes ranges from))
+  abbrev passesAll : ℕ → Bool
+  passesAll = allPass sheet program name key child ofType html attributes
+
+  abbrev tagScanned : Cursor → ℕ → ℕ → Sought
+  tagScanned = tagScan sheet program nodes ranges name key child ofType
+
+  abbrev allScanned : Cursor → ℕ → ℕ → List ℕ
+  allScanned = attributeScan sheet program nodes ranges name key child ofType html attributes
+
+  module _ (from : Cursor) (budget tests : ℕ) (fits : length (rest program nodes ranges from) ≤ budget) (few : testsIn program key (rest program nodes ranges from) ≤ tests) where
+    -- If the live instructions fit the budgets, these change nothing.
+    pub tag-scan-all : tagScanned from budget tests ≡ seek passesTag (asks program) (rest program nodes ranges from)
+    unfolding tagScan
+    tag-scan-all = rw (live-all program nodes ranges key from budget tests fits few)
+
+    pub attribute-scan-all : allScanned from budget tests ≡ keep passesAll (ats (rest program nodes ranges from))
     unfolding attributeScan
-    attribute-scan-all = rw (take-all budget (rest program nodes ranges from) fits)
+    attribute-scan-all = rw (live-all program nodes ranges key from budget tests fits few)
 
     module _ (own : Own program nodes ranges (rest program nodes ranges from)) where
-      found-whole : Whole program nodes ranges (tagPasses sheet program name key child ofType) (asks program) (allPass sheet program name key child ofType html attributes) less-all same-all
-          (rest program nodes ranges from) (seek (tagPasses sheet program name key child ofType) (asks program) (rest program nodes ranges from))
-      found-whole = whole program nodes ranges (tagPasses sheet program name key child ofType) (asks program) (allPass sheet program name key child ofType html attributes) less-all same-all (rest program nodes ranges from) own
+      abbrev Found : Sought → Type 0
+      Found = Whole program nodes ranges key passesTag (asks program) passesAll less-all same-all (rest program nodes ranges from)
 
-      found-so : (s : Sought) → tagScan sheet program nodes ranges name key child ofType from budget ≡ s → Whole program nodes ranges (tagPasses sheet program name key child ofType) (asks program) (allPass sheet program name key child ofType html attributes) less-all same-all (rest program nodes ranges from) s
-      found-so s e = subst (Whole program nodes ranges (tagPasses sheet program name key child ofType) (asks program) (allPass sheet program name key child ofType html attributes) less-all same-all (rest program nodes ranges from)) (sym tag-scan-all ∙ e) found-whole
+      found-so : (s : Sought) → tagScanned from budget tests ≡ s → Found s
+      found-so s e = subst Found (sym tag-scan-all ∙ e) (whole program nodes ranges key passesTag (asks program) passesAll less-all same-all (rest program nodes ranges from) own)
 
       -- A scan by the tag that comes to its end has found what matches with any attributes.
-      pub ended : (found : List ℕ) → tagScan sheet program nodes ranges name key child ofType from budget ≡ over found → attributeScan sheet program nodes ranges name key child ofType html attributes from budget ≡ found
+      pub ended : (found : List ℕ) → tagScanned from budget tests ≡ over found → allScanned from budget tests ≡ found
       ended found e = attribute-scan-all ∙ found-so (over found) e
 
-      -- One that stops, resumed at its cursor, finds the rest, and the budget that is left is enough for it.
-      pub resumed : (found : List ℕ) (c : Cursor) → tagScan sheet program nodes ranges name key child ofType from budget ≡ stopped found c
+      -- One that stops, resumed at its cursor, finds the rest; the instructions that are left of the budget and the tests of a new call are enough for it.
+      pub resumed : (found : List ℕ) (c : Cursor) → tagScanned from budget tests ≡ stopped found c
           → (length (rest program nodes ranges c) ≤ budget - length found)
-          × (attributeScan sheet program nodes ranges name key child ofType html attributes from budget ≡ found ++ attributeScan sheet program nodes ranges name key child ofType html attributes c (budget - length found))
+          × ((testsIn program key (rest program nodes ranges c) ≤ tests)
+          × (allScanned from budget tests ≡ found ++ allScanned c (budget - length found) tests))
       unfolding attributeScan
       resumed found c e =
           let w = found-so (stopped found c) e in
-          let k = w .1 in
+          let k = w .1 .0 in
+          let m = w .1 .1 in
           let n : length (rest program nodes ranges c) ≤ budget - length found = omega arith in
-          (n, attribute-scan-all ∙ w .0 ∙ rw (take-all (budget - length found) (rest program nodes ranges c) n))
+          let l : testsIn program key (rest program nodes ranges c) ≤ tests = omega arith in
+          (n, (l, attribute-scan-all ∙ w .0 ∙ rw (live-all program nodes ranges key c (budget - length found) tests n l)))

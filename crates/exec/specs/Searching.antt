@@ -8,8 +8,10 @@ use lib.ListN.{take}
 use Rattle.exec.specs.declared.cursor.Cursor.{Cursor}
 use Rattle.exec.specs.declared.cursor.Ranges.{Ranges}
 use Rattle.exec.specs.declared.scan.Candidate.{Candidate}
+use Rattle.exec.specs.declared.scan.Live.{Live}
 use Rattle.exec.specs.Cursors.{afterCursor, leftIn, rest}
 use Rattle.exec.specs.Instructions.{keyFits}
+use Rattle.exec.specs.Scans.{live}
 
 -- How many jumps are left at a cursor.
 unfoldable pub jumps : Ranges → Cursor → ℕ
@@ -37,4 +39,11 @@ unfoldable pub Reached : (program nodes : List ℕ) → Ranges → (key : ℕ) �
 Reached program nodes ranges key from budget Candidate.Over = fromKeyed program key (take budget (rest program nodes ranges from)) ≡ []
 Reached program nodes ranges key from budget (Candidate.At d left) =
     (fromKeyed program key (take budget (rest program nodes ranges from)) ≡ d ∷ take left (rest program nodes ranges (afterCursor d)))
+    × ((keyFits program key (d .at) ≡ true) × ((d .at < 2 ^ 16) × (left < budget)))
+
+-- The same with the budget of tests: a candidate whose tests go past it ends the search.
+unfoldable pub Within : (program nodes : List ℕ) → Ranges → (key : ℕ) → Cursor → (budget tests : ℕ) → Live → Type 0
+Within program nodes ranges key from budget tests Live.Over = fromKeyed program key (live program nodes ranges key from budget tests) ≡ []
+Within program nodes ranges key from budget tests (Live.At d left more) =
+    (fromKeyed program key (live program nodes ranges key from budget tests) ≡ d ∷ live program nodes ranges key (afterCursor d) left more)
     × ((keyFits program key (d .at) ≡ true) × ((d .at < 2 ^ 16) × (left < budget)))

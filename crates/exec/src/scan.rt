@@ -5,15 +5,17 @@ use crate::cursor::Ranges;
 use crate::instruction::asks_attributes;
 use crate::instruction::attributes_pass;
 use crate::instruction::tag_tests_pass;
+use cells::at32;
 use cells::get32;
 use cells::put16;
 ghost use mathlib.Core.Path.{_≡_};
-ghost use Prim.Native.Nat.{_+_, _≤_, _^_, max};
+ghost use Prim.Native.Nat.{_+_, _≤_, _<_, _^_, max};
 ghost use lib.ListN.{length};
 ghost use Rattle.cells.specs.Stretches.{written};
 ghost use Rattle.rules.specs.Attributes.{attributesOf};
-ghost use Rattle.exec.specs.Scans.{tagScan, answerFrom, foundIn, attributeScan};
-ghost use Rattle.exec.specs.Searching.{Reached, affordable, firstKeyed};
+ghost use Rattle.exec.specs.Instructions.{tagCount, attributeCount};
+ghost use Rattle.exec.specs.Scans.{testLimit, tagScan, answerFrom, foundIn, attributeScan};
+ghost use Rattle.exec.specs.Searching.{Reached, Within, affordable, firstKeyed};
 
 // How many instructions matched, and whether one asks for attributes: the cursor stands on it, or is all 0.
 pub struct Scanned {
@@ -25,6 +27,12 @@ pub struct Scanned {
 // The cursor on the next instruction whose key fits, with the budget for what comes after it.
 enum Candidate {
     At(Cursor, usize),
+    Over,
+}
+
+// The same, with the budget of tests after it.
+enum Live {
+    At(Cursor, usize, usize),
     Over,
 }
 
@@ -104,6 +112,38 @@ fn next_candidate(
     Candidate::Over
 }
 
+// How many tests an instruction has.
+fn tests_of(program: &[u32], a: u16) -> usize
+    ensures { λ r. ⌜ r ≡ tagCount (now (program .entry)) a + attributeCount (now (program .entry)) a ⌝ }
+{
+    let counts = at32(program, a as usize * 8 + 2);
+    counts / 256 % 256 + counts % 256
+}
+
+// The next instruction whose key fits, if its tests are within the budget of tests too.
+fn next_live(
+    program: &[u32],
+    nodes: &[u16],
+    ranges: Ranges,
+    key: u32,
+    from: Cursor,
+    budget: usize,
+    tests: usize,
+) -> Live
+    ensures { λ r. ⌜ Within (now (program .entry)) (now (nodes .entry)) ranges key from budget tests r ⌝ }
+{
+    match next_candidate(program, nodes, ranges, key, from, budget) {
+        Candidate::At(d, left) => {
+            let taken = tests_of(program, d.at as u16);
+            if tests < taken {
+                return Live::Over;
+            }
+            Live::At(d, left, tests - taken)
+        }
+        Candidate::Over => Live::Over,
+    }
+}
+
 // The instructions that match by the tag alone, up to the first that asks for attributes; the found ones are written from the store's start on.
 pub fn scan_tag(
     sheet: &[u8],
@@ -119,19 +159,21 @@ pub fn scan_tag(
     found: &mut [u16],
 ) -> Scanned
     ensures { λ r. ⌜
-        (r ≡ answerFrom 0 (tagScan (now (sheet .entry)) (now (program .entry)) (now (nodes .entry)) ranges (now (name .entry)) key child «of_type» from budget))
-        × (now (found .exit) ≡ written (now (found .entry)) 0 (foundIn (tagScan (now (sheet .entry)) (now (program .entry)) (now (nodes .entry)) ranges (now (name .entry)) key child «of_type» from budget)))
+        (r ≡ answerFrom 0 (tagScan (now (sheet .entry)) (now (program .entry)) (now (nodes .entry)) ranges (now (name .entry)) key child «of_type» from budget (testLimit (now (sheet .entry)))))
+        × (now (found .exit) ≡ written (now (found .entry)) 0 (foundIn (tagScan (now (sheet .entry)) (now (program .entry)) (now (nodes .entry)) ranges (now (name .entry)) key child «of_type» from budget (testLimit (now (sheet .entry))))))
         ⌝ }
 {
     let mut c = from;
     let mut left = budget as usize;
+    let mut tests = sheet.len() / 4;
     let mut count = 0;
     loop {
-        match next_candidate(program, nodes, ranges, key, c, left) {
-            Candidate::At(d, more) => {
+        match next_live(program, nodes, ranges, key, c, left, tests) {
+            Live::At(d, more, rest) => {
                 let a = d.at as u16;
                 c = d.next();
                 left = more;
+                tests = rest;
                 if tag_tests_pass(sheet, program, a, name, child, of_type) {
                     if asks_attributes(program, a) {
                         return Scanned {
@@ -144,7 +186,7 @@ pub fn scan_tag(
                     count += 1;
                 }
             }
-            Candidate::Over => {
+            Live::Over => {
                 return Scanned {
                     count,
                     stuck: false,
@@ -179,19 +221,21 @@ pub fn scan_attributes(
     found: &mut [u16],
 ) -> usize
     ensures { λ r. ⌜
-        (r ≡ count + length (attributeScan (now (sheet .entry)) (now (program .entry)) (now (nodes .entry)) ranges (now (name .entry)) key child «of_type» html (attributesOf (now (input .entry)) (now (outlines .entry))) from budget))
-        × (now (found .exit) ≡ written (now (found .entry)) count (attributeScan (now (sheet .entry)) (now (program .entry)) (now (nodes .entry)) ranges (now (name .entry)) key child «of_type» html (attributesOf (now (input .entry)) (now (outlines .entry))) from budget))
+        (r ≡ count + length (attributeScan (now (sheet .entry)) (now (program .entry)) (now (nodes .entry)) ranges (now (name .entry)) key child «of_type» html (attributesOf (now (input .entry)) (now (outlines .entry))) from budget (testLimit (now (sheet .entry)))))
+        × (now (found .exit) ≡ written (now (found .entry)) count (attributeScan (now (sheet .entry)) (now (program .entry)) (now (nodes .entry)) ranges (now (name .entry)) key child «of_type» html (attributesOf (now (input .entry)) (now (outlines .entry))) from budget (testLimit (now (sheet .entry)))))
         ⌝ }
 {
     let mut c = from;
     let mut left = budget as usize;
+    let mut tests = sheet.len() / 4;
     let mut all = count as usize;
     loop {
-        match next_candidate(program, nodes, ranges, key, c, left) {
-            Candidate::At(d, more) => {
+        match next_live(program, nodes, ranges, key, c, left, tests) {
+            Live::At(d, more, rest) => {
                 let a = d.at as u16;
                 c = d.next();
                 left = more;
+                tests = rest;
                 if tag_tests_pass(sheet, program, a, name, child, of_type) {
                     if attributes_pass(sheet, program, a, input, outlines, html) {
                         put16(found, all, a);
@@ -199,7 +243,7 @@ pub fn scan_attributes(
                     }
                 }
             }
-            Candidate::Over => {
+            Live::Over => {
                 return all;
             }
         }

@@ -2,10 +2,9 @@ use mathlib.Core.Path.{_≡_, refl}
 use mathlib.Core.List.{[]}
 use Prim.Native.Nat.{_+_, _-_, _≤_}
 use native.Mathlib.Omega.{arith}
-use lib.ListN.{length, take}
+use lib.ListN.{length}
 use Rattle.rules.specs.Attributes.{attributesOf}
-use Rattle.exec.specs.Cursors.{rest}
-use Rattle.exec.specs.Scans.{attributeScan}
+use Rattle.exec.specs.Scans.{testLimit, live, attributeScan}
 use Rattle.exec.specs.Searching.{fromKeyed}
 use Rattle.exec.proofs.ScanTurns.{At, reached-at, reached-over, Adding, adds-none, adds-one, adds-up, all-over, all-find, tag-refuses, attributes-refuse}
 use borrow.Author.Needs.{needs}
@@ -17,27 +16,27 @@ use Rattle.cells.proofs.put16.Reads as put16-reads
 use Rattle.exec.proofs.cursor.Cursor.next.Reads as next-reads
 use Rattle.exec.proofs.instruction.attributes_pass.Reads as attributes-pass-reads
 use Rattle.exec.proofs.instruction.tag_tests_pass.Reads as tag-tests-pass-reads
-use Rattle.exec.proofs.scan.next_candidate.Reads as next-candidate-reads
+use Rattle.exec.proofs.scan.next_live.Reads as next-live-reads
 
 abbrev Inv-loop : tie.InvT-loop
-Inv-loop sheet program nodes ranges name key child of-type input outlines html budget count found₀ c₀ left₀ all₀ found c left all = (all + left ≤ count + budget) × ((length found ≡ length found₀) × Adding count found₀ (attributeScan sheet program nodes ranges name key child of-type html (attributesOf input outlines) c₀ budget) found all (attributeScan sheet program nodes ranges name key child of-type html (attributesOf input outlines) c left))
+Inv-loop sheet program nodes ranges name key child of-type input outlines html budget count found₀ c₀ left₀ tests₀ all₀ found c left tests all = (all + left ≤ count + budget) × ((length found ≡ length found₀) × Adding count found₀ (attributeScan sheet program nodes ranges name key child of-type html (attributesOf input outlines) c₀ budget (testLimit sheet)) found all (attributeScan sheet program nodes ranges name key child of-type html (attributesOf input outlines) c left tests))
 
 abbrev μ-loop : tie.MeasureT-loop
-μ-loop sheet program nodes ranges name key child of-type input outlines html budget count found₀ c₀ left₀ all₀ found c left all = left
+μ-loop sheet program nodes ranges name key child of-type input outlines html budget count found₀ c₀ left₀ tests₀ all₀ found c left tests all = left
 
-reached : (c : tie.After-d Inv-loop μ-loop) → let l = c .before .before .before in let s = l .before .before .before .before .before .before .before .before .args in At (s .program .now) (s .nodes .now) (s .ranges) (s .key) (l .loop .c) (l .loop .left) (c .d .given .0 .0) (c .d .given .0 .1 .0)
-reached c = reached-at _ _ _ _ _ _ _ _ _ (c .before .before .next-candidate .ensures) (c .d .given .1)
+reached : (c : tie.After-d Inv-loop μ-loop) → let l = c .before .before .before in let s = l .before .before .before .before .before .before .before .before .args in At (s .program .now) (s .nodes .now) (s .ranges) (s .key) (l .loop .c) (l .loop .left) (l .loop .tests) (c .d .given .0 .0) (c .d .given .0 .1 .0) (c .d .given .0 .1 .1 .0)
+reached c = reached-at _ _ _ _ _ _ _ _ _ _ _ (c .before .before .next-live .ensures) (c .d .given .1)
 
-over : (c : tie.After-enum-told Inv-loop μ-loop) → let l = c .before .before .before in let s = l .before .before .before .before .before .before .before .before .args in fromKeyed (s .program .now) (s .key) (take (l .loop .left) (rest (s .program .now) (s .nodes .now) (s .ranges) (l .loop .c))) ≡ []
-over c = reached-over _ _ _ _ _ _ _ (c .before .before .next-candidate .ensures) (c .enum-told .given .1)
+over : (c : tie.After-enum-told Inv-loop μ-loop) → let l = c .before .before .before in let s = l .before .before .before .before .before .before .before .before .args in fromKeyed (s .program .now) (s .key) (live (s .program .now) (s .nodes .now) (s .ranges) (s .key) (l .loop .c) (l .loop .left) (l .loop .tests)) ≡ []
+over c = reached-over _ _ _ _ _ _ _ _ (c .before .before .next-live .ensures) (c .enum-told .given .1)
 
 -- src/scan.rt:182:5
 loop-holds : tie.Need-loop-holds Inv-loop μ-loop
 loop-holds c = (omega arith, (refl, (refl, refl)))
 
 -- src/scan.rt:183:15
-next-candidate-requires : tie.Need-next-candidate-requires Inv-loop μ-loop
-next-candidate-requires c κs = search needs
+next-live-requires : tie.Need-next-live-requires Inv-loop μ-loop
+next-live-requires c κs = search needs
 
 -- src/scan.rt:184:27
 enum-known-d : tie.Need-enum-known-d Inv-loop μ-loop
@@ -73,7 +72,7 @@ loop-less c = let e2 = c .before .before .before .before in let a = e2 .before i
 
 -- src/scan.rt:182:5
 loop-again : tie.Need-loop-again Inv-loop μ-loop
-loop-again c = let p = c .before .before in let e2 = p .before .before in let a = e2 .before in let e1 = a .before in let t = e1 .before in let n = t .before in let d = n .before .before .before in let l = d .before .before .before in let r = reached d in let z = r .less in (omega arith, (omega arith, adds-one _ _ _ _ _ _ (l .loop .inv .1 .1) _ _ _ (all-find _ _ _ _ _ _ _ _ _ _ _ _ _ _ r _ (t .tag-tests-pass .ensures) _ (n .next .ensures) _ (a .attributes-pass .ensures) (e1 .if1 .taken) (e2 .if2 .taken)) (p .put16 .ensures)))
+loop-again c = let p = c .before .before in let e2 = p .before .before in let a = e2 .before in let e1 = a .before in let t = e1 .before in let n = t .before in let d = n .before .before .before in let l = d .before .before .before in let r = reached d in let z = r .less in (omega arith, (omega arith, adds-one _ _ _ _ _ _ (l .loop .inv .1 .1) _ _ _ (all-find _ _ _ _ _ _ _ _ _ _ _ _ _ _ _ _ r _ (t .tag-tests-pass .ensures) _ (n .next .ensures) _ (a .attributes-pass .ensures) (e1 .if1 .taken) (e2 .if2 .taken)) (p .put16 .ensures)))
 
 -- src/scan.rt:182:5
 loop-less-2 : tie.Need-loop-less-2 Inv-loop μ-loop
@@ -81,7 +80,7 @@ loop-less-2 c = let e2 = c in let a = e2 .before in let e1 = a .before in let t 
 
 -- src/scan.rt:182:5
 loop-again-2 : tie.Need-loop-again-2 Inv-loop μ-loop
-loop-again-2 c = let e2 = c in let a = e2 .before in let e1 = a .before in let t = e1 .before in let n = t .before in let d = n .before .before .before in let l = d .before .before .before in let r = reached d in let z = r .less in (omega arith, (l .loop .inv .1 .0, adds-none _ _ _ _ _ _ (l .loop .inv .1 .1) _ (attributes-refuse _ _ _ _ _ _ _ _ _ _ _ _ _ _ r _ (t .tag-tests-pass .ensures) _ (n .next .ensures) _ (a .attributes-pass .ensures) (e1 .if1 .taken) (e2 .if2 .left))))
+loop-again-2 c = let e2 = c in let a = e2 .before in let e1 = a .before in let t = e1 .before in let n = t .before in let d = n .before .before .before in let l = d .before .before .before in let r = reached d in let z = r .less in (omega arith, (l .loop .inv .1 .0, adds-none _ _ _ _ _ _ (l .loop .inv .1 .1) _ (attributes-refuse _ _ _ _ _ _ _ _ _ _ _ _ _ _ _ _ r _ (t .tag-tests-pass .ensures) _ (n .next .ensures) _ (a .attributes-pass .ensures) (e1 .if1 .taken) (e2 .if2 .left))))
 
 -- src/scan.rt:182:5
 loop-less-3 : tie.Need-loop-less-3 Inv-loop μ-loop
@@ -89,7 +88,7 @@ loop-less-3 c = let e1 = c in let t = e1 .before in let n = t .before in let d =
 
 -- src/scan.rt:182:5
 loop-again-3 : tie.Need-loop-again-3 Inv-loop μ-loop
-loop-again-3 c = let e1 = c in let t = e1 .before in let n = t .before in let d = n .before .before .before in let l = d .before .before .before in let r = reached d in let z = r .less in (omega arith, (l .loop .inv .1 .0, adds-none _ _ _ _ _ _ (l .loop .inv .1 .1) _ (tag-refuses _ _ _ _ _ _ _ _ _ _ _ _ _ _ r _ (t .tag-tests-pass .ensures) _ (n .next .ensures) (e1 .if1 .left))))
+loop-again-3 c = let e1 = c in let t = e1 .before in let n = t .before in let d = n .before .before .before in let l = d .before .before .before in let r = reached d in let z = r .less in (omega arith, (l .loop .inv .1 .0, adds-none _ _ _ _ _ _ (l .loop .inv .1 .1) _ (tag-refuses _ _ _ _ _ _ _ _ _ _ _ _ _ _ _ _ r _ (t .tag-tests-pass .ensures) _ (n .next .ensures) (e1 .if1 .left))))
 
 -- src/scan.rt:196:17
 enum-told : tie.Need-enum-told Inv-loop μ-loop
@@ -101,7 +100,7 @@ same-length c = search needs
 
 -- src/scan.rt:196:17
 returns : tie.Need-returns Inv-loop μ-loop
-returns c = let l = c .before .before .before in adds-up _ _ _ _ _ _ (l .loop .inv .1 .1) (all-over _ _ _ _ _ _ _ _ _ _ _ _ (over c))
+returns c = let l = c .before .before .before in adds-up _ _ _ _ _ _ (l .loop .inv .1 .1) (all-over _ _ _ _ _ _ _ _ _ _ _ _ _ (over c))
 
 pub scan-attributes-spec : {M : Type 1} → statement M
 scan-attributes-spec =
@@ -110,7 +109,7 @@ scan-attributes-spec =
     Inv-loop
     μ-loop
     loop-holds
-    next-candidate-requires
+    next-live-requires
     enum-known-d
     cast-a
     next-requires

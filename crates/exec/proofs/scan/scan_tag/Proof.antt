@@ -2,9 +2,8 @@ use mathlib.Core.Path.{_≡_, refl}
 use mathlib.Core.List.{[]}
 use Prim.Native.Nat.{_+_, _-_, _≤_}
 use native.Mathlib.Omega.{arith}
-use lib.ListN.{length, take}
-use Rattle.exec.specs.Cursors.{rest}
-use Rattle.exec.specs.Scans.{tagScan}
+use lib.ListN.{length}
+use Rattle.exec.specs.Scans.{testLimit, live, tagScan}
 use Rattle.exec.specs.Searching.{fromKeyed}
 use Rattle.exec.proofs.ScanTurns.{At, reached-at, reached-over, Going, goes-on, goes-found, goes-out, goes-stuck, tag-over, tag-fails, tag-stops, tag-finds}
 use borrow.Author.Needs.{needs}
@@ -16,27 +15,27 @@ use Rattle.cells.proofs.put16.Reads as put16-reads
 use Rattle.exec.proofs.cursor.Cursor.next.Reads as next-reads
 use Rattle.exec.proofs.instruction.asks_attributes.Reads as asks-attributes-reads
 use Rattle.exec.proofs.instruction.tag_tests_pass.Reads as tag-tests-pass-reads
-use Rattle.exec.proofs.scan.next_candidate.Reads as next-candidate-reads
+use Rattle.exec.proofs.scan.next_live.Reads as next-live-reads
 
 abbrev Inv-loop : tie.InvT-loop
-Inv-loop sheet program nodes ranges name key child of-type budget found₀ c₀ left₀ count₀ found c left count = (count + left ≤ budget) × ((length found ≡ length found₀) × Going found₀ (tagScan sheet program nodes ranges name key child of-type c₀ budget) found count (tagScan sheet program nodes ranges name key child of-type c left))
+Inv-loop sheet program nodes ranges name key child of-type budget found₀ c₀ left₀ tests₀ count₀ found c left tests count = (count + left ≤ budget) × ((length found ≡ length found₀) × Going found₀ (tagScan sheet program nodes ranges name key child of-type c₀ budget (testLimit sheet)) found count (tagScan sheet program nodes ranges name key child of-type c left tests))
 
 abbrev μ-loop : tie.MeasureT-loop
-μ-loop sheet program nodes ranges name key child of-type budget found₀ c₀ left₀ count₀ found c left count = left
+μ-loop sheet program nodes ranges name key child of-type budget found₀ c₀ left₀ tests₀ count₀ found c left tests count = left
 
-reached : (c : tie.After-d Inv-loop μ-loop) → let l = c .before .before .before in let s = l .before .before .before .before .before .before .args in At (s .program .now) (s .nodes .now) (s .ranges) (s .key) (l .loop .c) (l .loop .left) (c .d .given .0 .0) (c .d .given .0 .1 .0)
-reached c = reached-at _ _ _ _ _ _ _ _ _ (c .before .before .next-candidate .ensures) (c .d .given .1)
+reached : (c : tie.After-d Inv-loop μ-loop) → let l = c .before .before .before in let s = l .before .before .before .before .before .before .args in At (s .program .now) (s .nodes .now) (s .ranges) (s .key) (l .loop .c) (l .loop .left) (l .loop .tests) (c .d .given .0 .0) (c .d .given .0 .1 .0) (c .d .given .0 .1 .1 .0)
+reached c = reached-at _ _ _ _ _ _ _ _ _ _ _ (c .before .before .next-live .ensures) (c .d .given .1)
 
-over : (c : tie.After-enum-told Inv-loop μ-loop) → let l = c .before .before .before in let s = l .before .before .before .before .before .before .args in fromKeyed (s .program .now) (s .key) (take (l .loop .left) (rest (s .program .now) (s .nodes .now) (s .ranges) (l .loop .c))) ≡ []
-over c = reached-over _ _ _ _ _ _ _ (c .before .before .next-candidate .ensures) (c .enum-told .given .1)
+over : (c : tie.After-enum-told Inv-loop μ-loop) → let l = c .before .before .before in let s = l .before .before .before .before .before .before .args in fromKeyed (s .program .now) (s .key) (live (s .program .now) (s .nodes .now) (s .ranges) (s .key) (l .loop .c) (l .loop .left) (l .loop .tests)) ≡ []
+over c = reached-over _ _ _ _ _ _ _ _ (c .before .before .next-live .ensures) (c .enum-told .given .1)
 
 -- src/scan.rt:122:5
 loop-holds : tie.Need-loop-holds Inv-loop μ-loop
 loop-holds c = (omega arith, (refl, (refl, refl)))
 
 -- src/scan.rt:123:15
-next-candidate-requires : tie.Need-next-candidate-requires Inv-loop μ-loop
-next-candidate-requires c κs = search needs
+next-live-requires : tie.Need-next-live-requires Inv-loop μ-loop
+next-live-requires c κs = search needs
 
 -- src/scan.rt:124:27
 enum-known-d : tie.Need-enum-known-d Inv-loop μ-loop
@@ -64,7 +63,7 @@ same-length c = search needs
 
 -- src/scan.rt:130:25
 returns : tie.Need-returns Inv-loop μ-loop
-returns c = let e2 = c in let a = e2 .before in let e1 = a .before in let t = e1 .before in let n = t .before in let d = n .before .before .before in let l = d .before .before .before in let r = reached d in let z = r .less in goes-stuck _ _ _ _ _ (l .loop .inv .1 .1) _ (tag-stops _ _ _ _ _ _ _ _ _ _ _ _ r _ (t .tag-tests-pass .ensures) _ (n .next .ensures) _ (a .asks-attributes .ensures) (e1 .if1 .taken) (e2 .if2 .taken))
+returns c = let e2 = c in let a = e2 .before in let e1 = a .before in let t = e1 .before in let n = t .before in let d = n .before .before .before in let l = d .before .before .before in let r = reached d in let z = r .less in goes-stuck _ _ _ _ _ (l .loop .inv .1 .1) _ (tag-stops _ _ _ _ _ _ _ _ _ _ _ _ _ _ r _ (t .tag-tests-pass .ensures) _ (n .next .ensures) _ (a .asks-attributes .ensures) (e1 .if1 .taken) (e2 .if2 .taken))
 
 -- src/scan.rt:136:21
 put16-requires : tie.Need-put16-requires Inv-loop μ-loop
@@ -80,7 +79,7 @@ loop-less c = let e2 = c .before .before .before .before in let a = e2 .before i
 
 -- src/scan.rt:122:5
 loop-again : tie.Need-loop-again Inv-loop μ-loop
-loop-again c = let p = c .before .before in let e2 = p .before .before in let a = e2 .before in let e1 = a .before in let t = e1 .before in let n = t .before in let d = n .before .before .before in let l = d .before .before .before in let r = reached d in let z = r .less in (omega arith, (omega arith, goes-found _ _ _ _ _ (l .loop .inv .1 .1) _ _ _ (tag-finds _ _ _ _ _ _ _ _ _ _ _ _ r _ (t .tag-tests-pass .ensures) _ (n .next .ensures) _ (a .asks-attributes .ensures) (e1 .if1 .taken) (e2 .if2 .left)) (p .put16 .ensures)))
+loop-again c = let p = c .before .before in let e2 = p .before .before in let a = e2 .before in let e1 = a .before in let t = e1 .before in let n = t .before in let d = n .before .before .before in let l = d .before .before .before in let r = reached d in let z = r .less in (omega arith, (omega arith, goes-found _ _ _ _ _ (l .loop .inv .1 .1) _ _ _ (tag-finds _ _ _ _ _ _ _ _ _ _ _ _ _ _ r _ (t .tag-tests-pass .ensures) _ (n .next .ensures) _ (a .asks-attributes .ensures) (e1 .if1 .taken) (e2 .if2 .left)) (p .put16 .ensures)))
 
 -- src/scan.rt:122:5
 loop-less-2 : tie.Need-loop-less-2 Inv-loop μ-loop
@@ -88,7 +87,7 @@ loop-less-2 c = let e1 = c in let t = e1 .before in let n = t .before in let d =
 
 -- src/scan.rt:122:5
 loop-again-2 : tie.Need-loop-again-2 Inv-loop μ-loop
-loop-again-2 c = let e1 = c in let t = e1 .before in let n = t .before in let d = n .before .before .before in let l = d .before .before .before in let r = reached d in let z = r .less in (omega arith, (l .loop .inv .1 .0, goes-on _ _ _ _ _ (l .loop .inv .1 .1) _ (tag-fails _ _ _ _ _ _ _ _ _ _ _ _ r _ (t .tag-tests-pass .ensures) _ (n .next .ensures) (e1 .if1 .left))))
+loop-again-2 c = let e1 = c in let t = e1 .before in let n = t .before in let d = n .before .before .before in let l = d .before .before .before in let r = reached d in let z = r .less in (omega arith, (l .loop .inv .1 .0, goes-on _ _ _ _ _ (l .loop .inv .1 .1) _ (tag-fails _ _ _ _ _ _ _ _ _ _ _ _ _ _ r _ (t .tag-tests-pass .ensures) _ (n .next .ensures) (e1 .if1 .left))))
 
 -- src/scan.rt:144:29
 enum-told : tie.Need-enum-told Inv-loop μ-loop
@@ -100,7 +99,7 @@ same-length-2 c = search needs
 
 -- src/scan.rt:141:17
 returns-2 : tie.Need-returns-2 Inv-loop μ-loop
-returns-2 c = let l = c .before .before .before in goes-out _ _ _ _ _ (l .loop .inv .1 .1) (tag-over _ _ _ _ _ _ _ _ _ _ (over c))
+returns-2 c = let l = c .before .before .before in goes-out _ _ _ _ _ (l .loop .inv .1 .1) (tag-over _ _ _ _ _ _ _ _ _ _ _ (over c))
 
 pub scan-tag-spec : {M : Type 1} → statement M
 scan-tag-spec =
@@ -109,7 +108,7 @@ scan-tag-spec =
     Inv-loop
     μ-loop
     loop-holds
-    next-candidate-requires
+    next-live-requires
     enum-known-d
     cast-a
     next-requires
