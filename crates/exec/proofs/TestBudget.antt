@@ -55,6 +55,7 @@ module _ (program : List ℕ) (key : ℕ) where
     where
       ds′ : List Cursor
       ds′ = withinTests program key (tests - testsOf (d .at)) ds
+
       go : (b : Bool) → fromKeyed program key (cond b [] (d ∷ ds′)) ≡ cond b [] (d ∷ ds′)
       go true = found-none
       go false = found-first d ds′ t
@@ -67,6 +68,7 @@ module _ (program : List ℕ) (key : ℕ) where
     where
       same : c ≡ d → cs ≡ ds → fromKeyed program key (withinTests program key tests (c ∷ cs)) ≡ cond (ltb tests (testsOf (d .at))) [] (d ∷ withinTests program key (tests - testsOf (d .at)) ds)
       same p q = ap (λ l. fromKeyed program key (withinTests program key tests l)) (λ i. p i ∷ q i) ∙ here-within tests d ds t
+
       go : (b : Bool) → keyFits program key (c .at) ≡ b → cond b (c ∷ cs) (fromKeyed program key cs) ≡ d ∷ ds
           → (fromKeyed program key cs ≡ d ∷ ds → fromKeyed program key (withinTests program key tests cs) ≡ cond (ltb tests (testsOf (d .at))) [] (d ∷ withinTests program key (tests - testsOf (d .at)) ds))
           → fromKeyed program key (withinTests program key tests (c ∷ cs)) ≡ cond (ltb tests (testsOf (d .at))) [] (d ∷ withinTests program key (tests - testsOf (d .at)) ds)

@@ -15,33 +15,21 @@ use Rattle.sheet.specs.Records.{NodeRecord}
 use Rattle.sheet.specs.Parser.{Parsed, refused, read, parseSheet}
 use Rattle.compiler.specs.Compiler.{places, compiledOf, storeOf}
 use Rattle.compiler.specs.declared.compiler.Compiled.{Compiled}
-use Rattle.stack.specs.Stores.{Stores, stores, opens, poppedCount, poppedRows, poppedIds, topIds, heldKind, heldName, released, freshRows}
-use Rattle.exec.specs.Scans.{Sought, foundIn, answerFrom}
-use Rattle.exec.specs.declared.scan.Scanned.{Scanned}
-use Rattle.weighing.specs.Weighing.{madeMark, esiOn, sized, stateRefusal, tagRefusal, pairsFull, attributesRefusal, endRefusal}
-use Rattle.machine.specs.declared.Answer.{Answer}
-use Rattle.machine.specs.declared.Reply.{Reply}
+use Rattle.stack.specs.Stores.{Stores, stores, opens, poppedCount, poppedRows, poppedIds, topIds, heldName, freshRows}
+use Rattle.weighing.specs.Weighing.{madeMark, esiOn, sized, stateRefusal, tagRefusal, attributesRefusal, endRefusal}
+use Rattle.weighing.specs.Passing.{passed, stopped-by}
+use Rattle.course.specs.Course.{kindOf}
+use Rattle.course.specs.CourseLaws.{front}
+use Rattle.tags.specs.declared.Answer.{Answer}
+use Rattle.tags.specs.declared.Reply.{Reply}
+use Rattle.tags.specs.Tags.{Outcome, outcome, cell, noIds, reply, lowered, given}
 use Rattle.machine.specs.declared.Made.{Made}
 use Rattle.machine.specs.declared.Popped.{Popped}
 use Rattle.machine.specs.declared.Top.{Top}
 use Rattle.machine.specs.declared.TopReply.{TopReply}
-use Rattle.machine.specs.Calls.{Outcome, outcome, cell, noIds, reply, soughtOf, kindOf, hasContent, begin, whole, begun, lowered, startCall, resumed, given, attributesCall, Ended, ended, popping, endCall, topReply, idSetCall, Fresh, fresh, flagsOf, freshOf, freshCall}
-use Rattle.machine.proofs.Small.{passed, stopped-by}
-use Rattle.machine.proofs.Scanning.{front, sought-is}
+use Rattle.machine.specs.Calls.{startCall, attributesCall, Ended, ended, popping, endCall, topReply, idSetCall, fresh, flagsOf, freshOf, freshCall}
 
 -- ---- start tag
-
-module _ (sheet program : List ℕ) (s : Stores) (name : List ℕ) (kind : ℕ) (full : Bool) (e : full ≡ pairsFull (s .rows) (s .names) name) where
-  pub lowered-full : (answer : Reply) → full ≡ true → answer ≡ reply (Answer.Refused 26) noIds → outcome answer s ≡ lowered sheet program s name kind
-  unfolding lowered
-  lowered-full answer h q = rw (← e, h) (λ i. outcome (q i) s)
-
-  pub lowered-begun : (o : Outcome) (r : Scanned) (zeros last : List ℕ) → full ≡ false
-      → (r ≡ answerFrom 0 (begin sheet program (s .rows) (s .names) (s .nodes) name kind)) × (last ≡ written zeros 0 (foundIn (begin sheet program (s .rows) (s .names) (s .nodes) name kind)))
-      → length (foundIn (begin sheet program (s .rows) (s .names) (s .nodes) name kind)) ≤ length zeros
-      → o ≡ begun sheet program s name kind (soughtOf (take (r .count - 0) (drop 0 last)) (r .stuck) (r .cursor)) → o ≡ lowered sheet program s name kind
-  unfolding lowered
-  lowered-begun o r zeros last h p l q = rw (← e, h) (q ∙ ap (begun sheet program s name kind) (sought-is (begin sheet program (s .rows) (s .names) (s .nodes) name kind) r zeros last (p .0) (p .1) l))
 
 module _ (sheet program : List ℕ) (s : Stores) (namespace : ℕ) (name : List ℕ) (state : ℕ) (e : state ≡ stateRefusal sheet program s) where
   pub start-state : (answer : Reply) → (state ≡ 0 → ⊥) → answer ≡ reply (Answer.Refused state) noIds → outcome answer s ≡ startCall sheet program s namespace name
@@ -63,15 +51,6 @@ module _ (sheet program : List ℕ) (s : Stores) (namespace : ℕ) (name : List 
         rw (passed state _ e z, passed tag _ f h) (q ∙ (λ i. lowered sheet program s (n i) (k i)))
 
 -- ---- attributes
-
-pub given-is : (sheet program : List ℕ) (s : Stores) (name : List ℕ) (closing : Bool) (input outlines zeros last : List ℕ) (n kind : ℕ) (content : Bool) (o : Outcome)
-    → (n ≡ length (resumed sheet program (s .rows) (s .names) (s .nodes) name input outlines)) × (last ≡ written zeros 0 (resumed sheet program (s .rows) (s .names) (s .nodes) name input outlines))
-    → length (resumed sheet program (s .rows) (s .names) (s .nodes) name input outlines) ≤ length zeros → kind ≡ getD (s .rows) 6 0 → content ≡ hasContent kind closing
-    → o ≡ whole sheet program s (released s) name content (take (n - 0) (drop 0 last)) → o ≡ given sheet program s name closing input outlines
-unfolding given
-given-is sheet program s name closing input outlines zeros last n kind content o p l k c q =
-    let f : take (n - 0) (drop 0 last) ≡ resumed sheet program (s .rows) (s .names) (s .nodes) name input outlines = ap (λ (x : List ℕ). take (n - 0) (drop 0 x)) (p .1) ∙ front zeros (resumed sheet program (s .rows) (s .names) (s .nodes) name input outlines) n (p .0) l in
-    q ∙ (λ i. whole sheet program s (released s) name ((c ∙ ap (λ (x : ℕ). hasContent x closing) k) i) (f i))
 
 module _ (sheet program : List ℕ) (s : Stores) (closing : Bool) (input outlines : List ℕ) (state : ℕ) (e : state ≡ stateRefusal sheet program s) where
   pub attributes-state : (answer : Reply) → (state ≡ 0 → ⊥) → answer ≡ reply (Answer.Refused state) noIds → outcome answer s ≡ attributesCall sheet program s closing input outlines

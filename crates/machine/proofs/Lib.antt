@@ -1,4 +1,1 @@
-pub mod Small
-pub mod Scanning
-pub mod Accepting
 pub mod Calling

@@ -7,10 +7,11 @@ use lib.ListN.{length}
 use Rattle.cells.specs.Numbers.{part}
 use Rattle.cells.specs.Stretches.{written}
 use Rattle.lines.specs.Lines.{Wrote, matchLine, attrsLine, popLine, refusedLine}
-use Rattle.machine.specs.Calls.{Outcome, outcome, Ended, ended, endCall}
-use Rattle.machine.specs.declared.Answer.{Answer}
+use Rattle.tags.specs.Tags.{Outcome, outcome}
+use Rattle.machine.specs.Calls.{Ended, ended, endCall}
+use Rattle.tags.specs.declared.Answer.{Answer}
 use Rattle.machine.specs.declared.Popped.{Popped}
-use Rattle.machine.specs.declared.Reply.{Reply}
+use Rattle.tags.specs.declared.Reply.{Reply}
 use Rattle.records.specs.Records.{Read, read, recordOf, Fits}
 use Rattle.records.specs.declared.Record.{Record}
 use Rattle.stack.specs.Stores.{Stores, stores}

@@ -6,10 +6,11 @@ use lib.ListN.{length, replicate}
 use Rattle.cells.specs.Numbers.{part}
 use Rattle.cells.specs.Stretches.{written}
 use Rattle.lines.specs.Lines.{matchLine, attrsLine, popLine, refusedLine}
-use Rattle.machine.specs.Calls.{Outcome, Ended, startCall, attributesCall, endCall}
-use Rattle.machine.specs.declared.Answer.{Answer}
+use Rattle.tags.specs.Tags.{Outcome}
+use Rattle.machine.specs.Calls.{Ended, startCall, attributesCall, endCall}
+use Rattle.tags.specs.declared.Answer.{Answer}
 use Rattle.machine.specs.declared.Popped.{Popped}
-use Rattle.machine.specs.declared.Reply.{Reply}
+use Rattle.tags.specs.declared.Reply.{Reply}
 use Rattle.records.specs.Records.{Read, recordOf}
 use Rattle.records.specs.declared.Record.{Record}
 use Rattle.stack.specs.Stores.{Stores, stores}

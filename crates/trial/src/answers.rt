@@ -1,14 +1,14 @@
 //! An answer as one number: a refusal is its own (01, section 2); 99 is a refusal that hands out an id; the others stand above.
-use machine::Answer;
 use machine::Made;
 use machine::Popped;
-use machine::Reply;
 use machine::Top;
 use machine::attributes;
 use machine::end;
 use machine::fresh_machine;
 use machine::id_set;
 use machine::start;
+use tags::Answer;
+use tags::Reply;
 
 // 40 waits for attributes, 41 a match with content, 42 one without.
 fn number_of(answer: Answer, low: u64, high: u64) -> u32 {

@@ -1,1 +1,2 @@
 pub mod Weighing
+pub mod Passing

@@ -1,15 +1,15 @@
-use Rattle.machine.proofs.Scanning.{part-few}
+use Rattle.course.specs.CourseLaws.{part-few}
 use mathlib.Core.Path.{_≡_, refl, sym, ap, _∙_}
 use native.Mathlib.Omega.{arith}
-use Rattle.machine.proofs.Small.{state-shape}
+use Rattle.weighing.specs.Passing.{state-shape}
 use Rattle.machine.proofs.Calling.{attributes-state, attributes-refused, attributes-given}
 use borrow.Author.Needs.{needs}
 use Rattle.machine.proofs.attributes.Statement.{statement}
 use Rattle.machine.proofs.attributes.Tie as tie
 use Rattle.machine.proofs.attributes.Reads as reads
 use Rattle.machine.proofs.attributes.Lts as lts
-use Rattle.machine.proofs.attributes_named.Reads as attributes-named-reads
-use Rattle.machine.proofs.refused.Reads as refused-reads
+use Rattle.tags.proofs.attributes_named.Reads as attributes-named-reads
+use Rattle.tags.proofs.refused.Reads as refused-reads
 use Rattle.stack.proofs.waiting.held_name.Reads as held-name-reads
 use Rattle.weighing.proofs.attributes_refusal.Reads as attributes-refusal-reads
 use Rattle.weighing.proofs.state_refusal.Reads as state-refusal-reads

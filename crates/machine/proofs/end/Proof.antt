@@ -1,6 +1,6 @@
 use mathlib.Core.Path.{_≡_, refl, sym, ap, _∙_}
 use native.Mathlib.Omega.{arith}
-use Rattle.machine.proofs.Small.{end-passed}
+use Rattle.weighing.specs.Passing.{end-passed}
 use Rattle.machine.proofs.Calling.{end-state, end-tag, end-lowered}
 use borrow.Author.Needs.{needs}
 use Rattle.machine.proofs.end.Statement.{statement}

@@ -5,7 +5,7 @@ use Rattle.machine.proofs.fresh_machine.Tie as tie
 use Rattle.machine.proofs.fresh_machine.Reads as reads
 use Rattle.machine.proofs.fresh_machine.Lts as lts
 use Rattle.compiler.proofs.compiler.compile.Reads as compile-reads
-use Rattle.machine.proofs.cell_of.Reads as cell-of-reads
+use Rattle.tags.proofs.cell_of.Reads as cell-of-reads
 use Rattle.machine.proofs.flags_of.Reads as flags-of-reads
 use Rattle.stack.proofs.waiting.fresh_rows.Reads as fresh-rows-reads
 use Rattle.weighing.proofs.is_sized.Reads as is-sized-reads

@@ -1,16 +1,16 @@
-use Rattle.machine.proofs.Scanning.{part-few}
+use Rattle.course.specs.CourseLaws.{part-few}
 use mathlib.Core.Path.{_≡_, refl, sym, ap, _∙_}
 use native.Mathlib.Omega.{arith}
-use Rattle.machine.proofs.Small.{state-shape, tag-passed}
+use Rattle.weighing.specs.Passing.{state-shape, tag-passed}
 use Rattle.machine.proofs.Calling.{start-state, start-tag, start-lowered}
 use borrow.Author.Needs.{needs}
 use Rattle.machine.proofs.start.Statement.{statement}
 use Rattle.machine.proofs.start.Tie as tie
 use Rattle.machine.proofs.start.Reads as reads
 use Rattle.machine.proofs.start.Lts as lts
-use Rattle.machine.proofs.kind_of.Reads as kind-of-reads
-use Rattle.machine.proofs.refused.Reads as refused-reads
-use Rattle.machine.proofs.start_lowered.Reads as start-lowered-reads
+use Rattle.course.proofs.kind_of.Reads as kind-of-reads
+use Rattle.tags.proofs.refused.Reads as refused-reads
+use Rattle.tags.proofs.start_lowered.Reads as start-lowered-reads
 use Rattle.names.proofs.is_void.Reads as is-void-reads
 use Rattle.weighing.proofs.is_esi_on.Reads as is-esi-on-reads
 use Rattle.weighing.proofs.lower_into.Reads as lower-into-reads

@@ -1,0 +1,116 @@
+-- What a scan finds is no longer than its budget, and stands at the front of the local list.
+use mathlib.Core.Path.{_≡_, refl, ap, _∙_}
+use mathlib.Core.Bool.{Bool, true, false, cond}
+use mathlib.Core.List.{List, [], _∷_}
+use Prim.Native.Nat.{ℕ, suc, _+_, _-_, _≤_}
+use native.Mathlib.Nat.{sub-zero, zero-add}
+use native.Mathlib.Numerals.{add-one}
+use native.Mathlib.Omega.{arith}
+use lib.Dec.{ltb}
+use lib.ListN.{length, getD, take, drop, set, length-append, length-take}
+use lib.Seq.{sets, sets-eq, take-at}
+use Rattle.cells.specs.Stretches.{written, length-cells}
+use Rattle.names.specs.Names.{nameKey}
+use Rattle.rules.specs.Attributes.{Attribute, attributesOf}
+use Rattle.sheet.specs.Parser.{nodeCount}
+use Rattle.stack.specs.Stores.{heldKind, foundFrom}
+use Rattle.exec.specs.Cursors.{rest, ats}
+use Rattle.exec.specs.Instructions.{tagPasses, asks}
+use Rattle.exec.specs.Scans.{Sought, over, stopped, keep, seek, foundToo, foundIn, answerFrom, testsTaken, withinTests, testLimit, live, tagScan, attributeScan, allPass}
+use Rattle.exec.specs.ScanLaws.{length-ats}
+use Rattle.exec.specs.declared.cursor.Cursor.{Cursor}
+use Rattle.exec.specs.declared.cursor.Ranges.{Ranges}
+use Rattle.exec.specs.declared.scan.Scanned.{Scanned}
+use Rattle.course.specs.Course.{isHtml, childPosition, typePosition, liveRanges, firstLive, heldCursor, begin, resumed}
+
+length-too : (a : ℕ) (s : Sought) → length (foundIn (foundToo a s)) ≡ suc (length (foundIn s))
+unfolding foundIn foundToo
+length-too a (over found) = refl
+length-too a (stopped found c) = refl
+
+seek-few : (passes asking : ℕ → Bool) (cs : List Cursor) → length (foundIn (seek passes asking cs)) ≤ length cs
+unfolding seek foundIn
+seek-few passes asking [] = omega arith
+seek-few passes asking (c ∷ cs) = go (passes (c .at)) (asking (c .at)) (seek-few passes asking cs)
+  where
+    go : (p q : Bool) → length (foundIn (seek passes asking cs)) ≤ length cs → length (foundIn (cond p (cond q (stopped [] c) (foundToo (c .at) (seek passes asking cs))) (seek passes asking cs))) ≤ suc (length cs)
+    go false q h = omega arith
+    go true true h = omega arith
+    go true false h = let e = length-too (c .at) (seek passes asking cs) in omega (arith, e, h)
+
+keep-few : (p : ℕ → Bool) (xs : List ℕ) → length (keep p xs) ≤ length xs
+unfolding keep
+keep-few p [] = omega arith
+keep-few p (x ∷ xs) = go (p x) (keep-few p xs)
+  where
+    go : (b : Bool) → length (keep p xs) ≤ length xs → length (cond b (x ∷ keep p xs) (keep p xs)) ≤ suc (length xs)
+    go true h = omega arith
+    go false h = omega arith
+
+take-few : {A : Type 0} (n : ℕ) (xs : List A) → length (take n xs) ≤ n
+take-few n xs = let e = length-take n xs in omega (arith, e)
+
+pub part-few : (xs : List ℕ) (n m : ℕ) → n ≤ m → length (take (n - 0) (drop 0 xs)) ≤ m
+part-few xs n m h = let a = take-few (n - 0) (drop 0 xs) in omega (arith, a, h)
+
+within-few : (program : List ℕ) (key tests : ℕ) (cs : List Cursor) → length (withinTests program key tests cs) ≤ length cs
+unfolding withinTests
+within-few program key tests [] = omega arith
+within-few program key tests (c ∷ cs) = go (ltb tests (testsTaken program key (c .at))) (within-few program key (tests - testsTaken program key (c .at)) cs)
+  where
+    go : (b : Bool) → length (withinTests program key (tests - testsTaken program key (c .at)) cs) ≤ length cs → length (cond b [] (c ∷ withinTests program key (tests - testsTaken program key (c .at)) cs)) ≤ suc (length cs)
+    go true h = omega arith
+    go false h = omega arith
+
+live-few : (program nodes : List ℕ) (ranges : Ranges) (key : ℕ) (from : Cursor) (budget tests : ℕ) → length (live program nodes ranges key from budget tests) ≤ budget
+unfolding live
+live-few program nodes ranges key from budget tests =
+    let a = within-few program key tests (take budget (rest program nodes ranges from)) in
+    let b = take-few budget (rest program nodes ranges from) in
+    omega (arith, a, b)
+
+module _ (sheet program nodes : List ℕ) (ranges : Ranges) (name : List ℕ) (key child ofType : ℕ) (from : Cursor) (budget tests : ℕ) where
+  tag-few : length (foundIn (tagScan sheet program nodes ranges name key child ofType from budget tests)) ≤ budget
+  unfolding tagScan
+  tag-few =
+      let a = seek-few (tagPasses sheet program name key child ofType) (asks program) (live program nodes ranges key from budget tests) in
+      let b = live-few program nodes ranges key from budget tests in
+      omega (arith, a, b)
+
+  attribute-few : (html : Bool) (attributes : List Attribute) → length (attributeScan sheet program nodes ranges name key child ofType html attributes from budget tests) ≤ budget
+  unfolding attributeScan
+  attribute-few html attributes =
+      let a = keep-few (allPass sheet program name key child ofType html attributes) (ats (live program nodes ranges key from budget tests)) in
+      let b = length-ats (live program nodes ranges key from budget tests) in
+      let c = live-few program nodes ranges key from budget tests in
+      omega (arith, a, b, c)
+
+pub begin-few : (sheet program rows names nodes name : List ℕ) (kind : ℕ) → length (foundIn (begin sheet program rows names nodes name kind)) ≤ nodeCount sheet
+unfolding begin foundIn
+begin-few sheet program rows names nodes name kind = go (isHtml kind)
+  where
+    go : (b : Bool) → length (foundIn (cond b (tagScan sheet program nodes (liveRanges sheet rows) name (nameKey name) (childPosition rows) (typePosition rows names name) (firstLive sheet rows) (nodeCount sheet) (testLimit sheet)) (stopped [] (firstLive sheet rows)))) ≤ nodeCount sheet
+    go true = tag-few sheet program nodes (liveRanges sheet rows) name (nameKey name) (childPosition rows) (typePosition rows names name) (firstLive sheet rows) (nodeCount sheet) (testLimit sheet)
+    go false = omega arith
+
+pub resumed-few : (sheet program rows names nodes name input outlines : List ℕ) → getD rows 7 0 ≤ nodeCount sheet → length (resumed sheet program rows names nodes name input outlines) ≤ nodeCount sheet
+unfolding resumed
+resumed-few sheet program rows names nodes name input outlines h =
+    let a = attribute-few sheet program nodes (liveRanges sheet rows) name (nameKey name) (childPosition rows) (typePosition rows names name) (heldCursor rows) (nodeCount sheet - getD rows 7 0) (testLimit sheet) (isHtml (heldKind rows)) (attributesOf input outlines) in
+    let b = length-cells nodes foundFrom (getD rows 7 0) in
+    rw length-append (omega (arith, a, b, h))
+
+-- ---- what was found is the front of the local list
+
+written-sets : (xs : List ℕ) (a : ℕ) (vs : List ℕ) → written xs a vs ≡ sets xs a vs
+unfolding written
+written-sets xs a [] = refl
+written-sets xs a (v ∷ vs) = rw (add-one a) (written-sets (set xs a v) (suc a) vs)
+
+pub front : (xs vs : List ℕ) (n : ℕ) → n ≡ length vs → length vs ≤ length xs → take (n - 0) (drop 0 (written xs 0 vs)) ≡ vs
+front xs vs n e h = rw (e, sub-zero (length vs), written-sets xs 0 vs, sets-eq vs xs 0 (omega arith)) (take-at vs (drop (0 + length vs) xs) (length vs) refl)
+
+pub count-is : (s : Sought) (r : Scanned) → r ≡ answerFrom 0 s → r .count ≡ length (foundIn s)
+unfolding answerFrom foundIn
+count-is (over found) r e = ap (λ (x : Scanned). x .count) e ∙ zero-add (length found)
+count-is (stopped found c) r e = ap (λ (x : Scanned). x .count) e ∙ zero-add (length found)
