@@ -6,6 +6,8 @@
 #![allow(unsafe_code)]
 #![allow(clippy::too_many_arguments)] // a slice for each store, as the C functions have them
 
+use crate::Outline;
+
 /// Cells of the state stores. A longer store is taken; a shorter one is refused (31).
 pub const ROWS: usize = 3096;
 /// Bytes of the name store.
@@ -134,6 +136,12 @@ mod linked {
             nodes_len: usize,
         ) -> Told;
     }
+}
+
+/// The numbers of outlines, in place.
+pub(crate) fn numbers(outlines: &[Outline]) -> &[u32] {
+    // SAFETY: an `Outline` is `repr(C)` and four `u32`, so it has their alignment and no other bytes.
+    unsafe { std::slice::from_raw_parts(outlines.as_ptr().cast(), 4 * outlines.len()) }
 }
 
 /// Makes a machine of a sheet, whatever its stores held.

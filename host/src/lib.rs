@@ -107,17 +107,6 @@ pub struct Outline {
     pub value_end: u32,
 }
 
-impl Outline {
-    const fn four(self) -> [u32; 4] {
-        [
-            self.name_start,
-            self.name_end,
-            self.value_start,
-            self.value_end,
-        ]
-    }
-}
-
 /// A machine with its sheet and its stores.
 #[derive(Clone, Debug, PartialEq, Eq)]
 pub struct Machine {
@@ -129,7 +118,6 @@ pub struct Machine {
     ids: Box<[u64]>,
     nodes: Box<[u16]>,
     popped: Box<[u64]>,
-    outlines: Vec<u32>,
 }
 
 /// The most elements that can be open, so the most that one end tag pops.
@@ -175,7 +163,6 @@ impl Machine {
             ids: vec![0; calls::IDS].into(),
             nodes: vec![0; calls::NODES].into(),
             popped: vec![0; 2 * OPEN].into(),
-            outlines: Vec::new(),
         };
         let told = machine.fresh();
         match told.kind {
@@ -226,9 +213,6 @@ impl Machine {
         input: &[u8],
         outlines: &[Outline],
     ) -> Result<Answer, Refusal> {
-        self.outlines.clear();
-        self.outlines
-            .extend(outlines.iter().flat_map(|outline| outline.four()));
         answer(calls::attributes(
             &self.sheet,
             &self.program,
@@ -238,7 +222,7 @@ impl Machine {
             &mut self.nodes,
             u32::from(self_closing),
             input,
-            &self.outlines,
+            calls::numbers(outlines),
         ))
     }
 
