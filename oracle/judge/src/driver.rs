@@ -87,6 +87,50 @@ impl Judge {
     }
 }
 
+/// A tag's attributes as lol_html's tokenizer hands them over: prepared, so that a run that is timed has only the machine in it.
+pub struct Prepared {
+    input: Vec<u8>,
+    outlines: AttributeBuffer,
+}
+
+impl Prepared {
+    pub fn new(attributes: Outlined<'_>) -> Self {
+        let fours = attributes.outlines.chunks_exact(4);
+        Self {
+            input: attributes.input.to_vec(),
+            outlines: fours
+                .map(|four| AttributeOutline {
+                    name: range(four[0], four[1]),
+                    value: range(four[2], four[3]),
+                })
+                .collect(),
+        }
+    }
+}
+
+impl Judge {
+    /// Attributes that were prepared, of the tag that waits.
+    pub fn give(&mut self, self_closing: bool, attributes: &Prepared) -> Answer {
+        let Some((number, request)) = self.waiting.take() else {
+            return Answer::Refused(23);
+        };
+        let info = AuxStartTagInfo {
+            input: &Bytes::new(&attributes.input),
+            attr_buffer: &attributes.outlines,
+            self_closing,
+        };
+        let mut reported = Reported::default();
+        request(&mut self.vm, info, &mut |info| reported.add(info)).expect("no limit was set");
+        self.matched(number, reported)
+    }
+
+    /// An end tag where no tag waits: each popped element's ids are handed to `popped`, in opening order.
+    pub fn close(&mut self, name: &[u8], mut popped: impl FnMut(Ids)) {
+        self.vm
+            .exec_for_end_tag(local_name(name), |element| popped(set(&element.ids)));
+    }
+}
+
 impl Machine for Judge {
     fn start(&mut self, namespace: u8, name: &[u8]) -> Answer {
         if self.waiting.is_some() {
@@ -118,25 +162,7 @@ impl Machine for Judge {
     }
 
     fn attributes(&mut self, self_closing: bool, attributes: Outlined<'_>) -> Answer {
-        let Some((number, request)) = self.waiting.take() else {
-            return Answer::Refused(23);
-        };
-        let attr_buffer: AttributeBuffer = attributes
-            .outlines
-            .chunks_exact(4)
-            .map(|four| AttributeOutline {
-                name: range(four[0], four[1]),
-                value: range(four[2], four[3]),
-            })
-            .collect();
-        let info = AuxStartTagInfo {
-            input: &Bytes::new(attributes.input),
-            attr_buffer: &attr_buffer,
-            self_closing,
-        };
-        let mut reported = Reported::default();
-        request(&mut self.vm, info, &mut |info| reported.add(info)).expect("no limit was set");
-        self.matched(number, reported)
+        self.give(self_closing, &Prepared::new(attributes))
     }
 
     fn end(&mut self, name: &[u8], _room: usize) -> Answer {
@@ -147,8 +173,7 @@ impl Machine for Judge {
             return Answer::Refused(20);
         }
         let mut popped = Vec::new();
-        self.vm
-            .exec_for_end_tag(local_name(name), |element| popped.push(set(&element.ids)));
+        self.close(name, |ids| popped.push(ids));
         Answer::Popped(popped)
     }
 

@@ -8,5 +8,5 @@ mod parser;
 mod rewriter;
 mod transform_stream;
 
-pub use crate::driver::{Block, Instruction, Judge, compiled, nth_holds, same_name};
+pub use crate::driver::{Block, Instruction, Judge, Prepared, compiled, nth_holds, same_name};
 pub use crate::guarded::Guarded;
