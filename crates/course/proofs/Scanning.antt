@@ -13,7 +13,7 @@ use Rattle.sheet.specs.Parser.{nodeCount, rootCount}
 use Rattle.stack.specs.Stores.{heldKind, heldFound, foundFrom}
 use Rattle.stack.specs.Laws.{written-cat}
 use Rattle.exec.specs.Cursors.{firstCursor}
-use Rattle.exec.specs.Scans.{Sought, foundIn, answerFrom, testLimit, tagScan, attributeScan}
+use Rattle.exec.specs.Scans.{Sought, foundIn, answerFrom, tagScan, attributeScan}
 use Rattle.exec.specs.declared.cursor.Cursor.{Cursor}
 use Rattle.exec.specs.declared.cursor.Ranges.{Ranges}
 use Rattle.exec.specs.declared.scan.Scanned.{Scanned}
@@ -31,12 +31,12 @@ module _ (sheet program rows names nodes name : List ℕ) (kind : ℕ) (found : 
 
   pub begin-scans : (ranges : Ranges) (key child ofType budget : ℕ) (r : Scanned) (last : List ℕ) → not html ≡ false
       → ranges ≡ liveRanges sheet rows → child ≡ childPosition rows → ofType ≡ typePosition rows names name → key ≡ nameKey name → (budget ≡ nodeCount sheet) × (budget < 2 ^ 16)
-      → (r ≡ answerFrom 0 (tagScan sheet program nodes ranges name key child ofType from budget (testLimit sheet))) × (last ≡ written found 0 (foundIn (tagScan sheet program nodes ranges name key child ofType from budget (testLimit sheet))))
+      → (r ≡ answerFrom 0 (tagScan sheet program nodes ranges name key child ofType from budget (length sheet))) × (last ≡ written found 0 (foundIn (tagScan sheet program nodes ranges name key child ofType from budget (length sheet))))
       → (r ≡ answerFrom 0 (begin sheet program rows names nodes name kind)) × (last ≡ written found 0 (foundIn (begin sheet program rows names nodes name kind)))
   unfolding begin
   begin-scans ranges key child ofType budget r last h a b c d e p =
-      let q : tagScan sheet program nodes ranges name key child ofType from budget (testLimit sheet) ≡ tagScan sheet program nodes (liveRanges sheet rows) name (nameKey name) (childPosition rows) (typePosition rows names name) (firstLive sheet rows) (nodeCount sheet) (testLimit sheet)
-      = λ i. tagScan sheet program nodes (a i) name (d i) (b i) (c i) (f i) (e .0 i) (testLimit sheet) in
+      let q : tagScan sheet program nodes ranges name key child ofType from budget (length sheet) ≡ tagScan sheet program nodes (liveRanges sheet rows) name (nameKey name) (childPosition rows) (typePosition rows names name) (firstLive sheet rows) (nodeCount sheet) (length sheet)
+      = λ i. tagScan sheet program nodes (a i) name (d i) (b i) (c i) (f i) (e .0 i) (length sheet) in
       rw (← g, not-false html h) (p .0 ∙ ap (answerFrom 0) q, p .1 ∙ ap (λ (s : Sought). written found 0 (foundIn s)) q)
 
 -- ---- the scan of a waiting tag that goes on
@@ -44,13 +44,13 @@ module _ (sheet program rows names nodes name : List ℕ) (kind : ℕ) (found : 
 module _ (sheet program rows names nodes name input outlines found first last : List ℕ) (count kind budget r : ℕ) (ranges : Ranges) (key child ofType : ℕ) (html : Bool) (from : Cursor) where
   pub resume-is : (count ≡ getD rows 7 0) × (first ≡ written found 0 (heldFound rows nodes))
       → ranges ≡ liveRanges sheet rows → child ≡ childPosition rows → ofType ≡ typePosition rows names name → key ≡ nameKey name → kind ≡ getD rows 6 0 → html ≡ isHtml kind → from ≡ heldCursor rows → (budget ≡ nodeCount sheet) × (budget < 2 ^ 16)
-      → (r ≡ count + length (attributeScan sheet program nodes ranges name key child ofType html (attributesOf input outlines) from (budget - count) (testLimit sheet))) × (last ≡ written first count (attributeScan sheet program nodes ranges name key child ofType html (attributesOf input outlines) from (budget - count) (testLimit sheet)))
+      → (r ≡ count + length (attributeScan sheet program nodes ranges name key child ofType html (attributesOf input outlines) from (budget - count) (length sheet))) × (last ≡ written first count (attributeScan sheet program nodes ranges name key child ofType html (attributesOf input outlines) from (budget - count) (length sheet)))
       → (r ≡ length (resumed sheet program rows names nodes name input outlines)) × (last ≡ written found 0 (resumed sheet program rows names nodes name input outlines))
   unfolding resumed
   resume-is h a b c d k g f e p =
-      let q : attributeScan sheet program nodes ranges name key child ofType html (attributesOf input outlines) from (budget - count) (testLimit sheet)
-      ≡ attributeScan sheet program nodes (liveRanges sheet rows) name (nameKey name) (childPosition rows) (typePosition rows names name) (isHtml (heldKind rows)) (attributesOf input outlines) (heldCursor rows) (nodeCount sheet - getD rows 7 0) (testLimit sheet)
-      = λ i. attributeScan sheet program nodes (a i) name (d i) (b i) (c i) ((g ∙ ap isHtml k) i) (attributesOf input outlines) (f i) (e .0 i - h .0 i) (testLimit sheet) in
+      let q : attributeScan sheet program nodes ranges name key child ofType html (attributesOf input outlines) from (budget - count) (length sheet)
+      ≡ attributeScan sheet program nodes (liveRanges sheet rows) name (nameKey name) (childPosition rows) (typePosition rows names name) (isHtml (heldKind rows)) (attributesOf input outlines) (heldCursor rows) (nodeCount sheet - getD rows 7 0) (length sheet)
+      = λ i. attributeScan sheet program nodes (a i) name (d i) (b i) (c i) ((g ∙ ap isHtml k) i) (attributesOf input outlines) (f i) (e .0 i - h .0 i) (length sheet) in
       let l = length-cells nodes foundFrom (getD rows 7 0) in (
         p .0 ∙ rw (q, h .0, length-append, l),
         p .1 ∙ rw (q, h .1, h .0, written-cat, l, zero-add (getD rows 7 0)),

@@ -3,13 +3,13 @@ use mathlib.Core.Bool.{Bool, cond, not}
 use mathlib.Core.List.{List, [], _++_}
 use Prim.Native.Nat.{ℕ, _+_, _-_, _/_, _%_}
 use lib.Dec.{eqb}
-use lib.ListN.{getD}
+use lib.ListN.{length, getD}
 use Rattle.names.specs.Names.{nameKey}
 use Rattle.rules.specs.Attributes.{attributesOf}
 use Rattle.sheet.specs.Parser.{nodeCount, rootCount}
 use Rattle.stack.specs.Stores.{ancestorsFrom, opens, parentsTop, ancestorsTop, rowWord, children, oneMore, timesOf, heldKind, heldFound}
 use Rattle.exec.specs.Cursors.{cursorOf, firstCursor}
-use Rattle.exec.specs.Scans.{Sought, stopped, testLimit, tagScan, attributeScan}
+use Rattle.exec.specs.Scans.{Sought, stopped, tagScan, attributeScan}
 use Rattle.exec.specs.declared.cursor.Cursor.{Cursor}
 use Rattle.exec.specs.declared.cursor.Ranges.{Ranges}
 use Rattle.weighing.specs.Weighing.{typesCounted}
@@ -54,7 +54,7 @@ module _ (sheet program : List ℕ) where
   unfoldable pub begin : (rows names nodes name : List ℕ) → (kind : ℕ) → Sought
   begin rows names nodes name kind =
       cond (isHtml kind)
-      (tagScan sheet program nodes (liveRanges sheet rows) name (nameKey name) (childPosition rows) (typePosition rows names name) (firstLive sheet rows) (nodeCount sheet) (testLimit sheet))
+      (tagScan sheet program nodes (liveRanges sheet rows) name (nameKey name) (childPosition rows) (typePosition rows names name) (firstLive sheet rows) (nodeCount sheet) (length sheet))
       (stopped [] (firstLive sheet rows))
 
   -- All nodes that the waiting tag, by its name, matches with the attributes at hand: those found before it waited, and those from its cursor on.
@@ -62,4 +62,4 @@ module _ (sheet program : List ℕ) where
   resumed rows names nodes name input outlines =
       heldFound rows nodes
       ++ attributeScan sheet program nodes (liveRanges sheet rows) name (nameKey name) (childPosition rows) (typePosition rows names name) (isHtml (heldKind rows))
-      (attributesOf input outlines) (heldCursor rows) (nodeCount sheet - getD rows 7 0) (testLimit sheet)
+      (attributesOf input outlines) (heldCursor rows) (nodeCount sheet - getD rows 7 0) (length sheet)

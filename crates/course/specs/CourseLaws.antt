@@ -16,7 +16,7 @@ use Rattle.sheet.specs.Parser.{nodeCount}
 use Rattle.stack.specs.Stores.{heldKind, foundFrom}
 use Rattle.exec.specs.Cursors.{rest, ats}
 use Rattle.exec.specs.Instructions.{tagPasses, asks}
-use Rattle.exec.specs.Scans.{Sought, over, stopped, keep, seek, foundToo, foundIn, answerFrom, testsTaken, withinTests, testLimit, live, tagScan, attributeScan, allPass}
+use Rattle.exec.specs.Scans.{Sought, over, stopped, keep, seek, foundToo, foundIn, answerFrom, testsTaken, withinTests, live, tagScan, attributeScan, allPass}
 use Rattle.exec.specs.ScanLaws.{length-ats}
 use Rattle.exec.specs.declared.cursor.Cursor.{Cursor}
 use Rattle.exec.specs.declared.cursor.Ranges.{Ranges}
@@ -53,50 +53,50 @@ take-few n xs = let e = length-take n xs in omega (arith, e)
 pub part-few : (xs : List ℕ) (n m : ℕ) → n ≤ m → length (take (n - 0) (drop 0 xs)) ≤ m
 part-few xs n m h = let a = take-few (n - 0) (drop 0 xs) in omega (arith, a, h)
 
-within-few : (program : List ℕ) (key tests : ℕ) (cs : List Cursor) → length (withinTests program key tests cs) ≤ length cs
+within-few : (sheet program : List ℕ) (key bytes : ℕ) (cs : List Cursor) → length (withinTests sheet program key bytes cs) ≤ length cs
 unfolding withinTests
-within-few program key tests [] = omega arith
-within-few program key tests (c ∷ cs) = go (ltb tests (testsTaken program key (c .at))) (within-few program key (tests - testsTaken program key (c .at)) cs)
+within-few sheet program key bytes [] = omega arith
+within-few sheet program key bytes (c ∷ cs) = go (ltb bytes (testsTaken sheet program key (c .at))) (within-few sheet program key (bytes - testsTaken sheet program key (c .at)) cs)
   where
-    go : (b : Bool) → length (withinTests program key (tests - testsTaken program key (c .at)) cs) ≤ length cs → length (cond b [] (c ∷ withinTests program key (tests - testsTaken program key (c .at)) cs)) ≤ suc (length cs)
+    go : (b : Bool) → length (withinTests sheet program key (bytes - testsTaken sheet program key (c .at)) cs) ≤ length cs → length (cond b [] (c ∷ withinTests sheet program key (bytes - testsTaken sheet program key (c .at)) cs)) ≤ suc (length cs)
     go true h = omega arith
     go false h = omega arith
 
-live-few : (program nodes : List ℕ) (ranges : Ranges) (key : ℕ) (from : Cursor) (budget tests : ℕ) → length (live program nodes ranges key from budget tests) ≤ budget
+live-few : (sheet program nodes : List ℕ) (ranges : Ranges) (key : ℕ) (from : Cursor) (budget bytes : ℕ) → length (live sheet program nodes ranges key from budget bytes) ≤ budget
 unfolding live
-live-few program nodes ranges key from budget tests =
-    let a = within-few program key tests (take budget (rest program nodes ranges from)) in
+live-few sheet program nodes ranges key from budget bytes =
+    let a = within-few sheet program key bytes (take budget (rest program nodes ranges from)) in
     let b = take-few budget (rest program nodes ranges from) in
     omega (arith, a, b)
 
-module _ (sheet program nodes : List ℕ) (ranges : Ranges) (name : List ℕ) (key child ofType : ℕ) (from : Cursor) (budget tests : ℕ) where
-  tag-few : length (foundIn (tagScan sheet program nodes ranges name key child ofType from budget tests)) ≤ budget
+module _ (sheet program nodes : List ℕ) (ranges : Ranges) (name : List ℕ) (key child ofType : ℕ) (from : Cursor) (budget bytes : ℕ) where
+  tag-few : length (foundIn (tagScan sheet program nodes ranges name key child ofType from budget bytes)) ≤ budget
   unfolding tagScan
   tag-few =
-      let a = seek-few (tagPasses sheet program name key child ofType) (asks program) (live program nodes ranges key from budget tests) in
-      let b = live-few program nodes ranges key from budget tests in
+      let a = seek-few (tagPasses sheet program name key child ofType) (asks program) (live sheet program nodes ranges key from budget bytes) in
+      let b = live-few sheet program nodes ranges key from budget bytes in
       omega (arith, a, b)
 
-  attribute-few : (html : Bool) (attributes : List Attribute) → length (attributeScan sheet program nodes ranges name key child ofType html attributes from budget tests) ≤ budget
+  attribute-few : (html : Bool) (attributes : List Attribute) → length (attributeScan sheet program nodes ranges name key child ofType html attributes from budget bytes) ≤ budget
   unfolding attributeScan
   attribute-few html attributes =
-      let a = keep-few (allPass sheet program name key child ofType html attributes) (ats (live program nodes ranges key from budget tests)) in
-      let b = length-ats (live program nodes ranges key from budget tests) in
-      let c = live-few program nodes ranges key from budget tests in
+      let a = keep-few (allPass sheet program name key child ofType html attributes) (ats (live sheet program nodes ranges key from budget bytes)) in
+      let b = length-ats (live sheet program nodes ranges key from budget bytes) in
+      let c = live-few sheet program nodes ranges key from budget bytes in
       omega (arith, a, b, c)
 
 pub begin-few : (sheet program rows names nodes name : List ℕ) (kind : ℕ) → length (foundIn (begin sheet program rows names nodes name kind)) ≤ nodeCount sheet
 unfolding begin foundIn
 begin-few sheet program rows names nodes name kind = go (isHtml kind)
   where
-    go : (b : Bool) → length (foundIn (cond b (tagScan sheet program nodes (liveRanges sheet rows) name (nameKey name) (childPosition rows) (typePosition rows names name) (firstLive sheet rows) (nodeCount sheet) (testLimit sheet)) (stopped [] (firstLive sheet rows)))) ≤ nodeCount sheet
-    go true = tag-few sheet program nodes (liveRanges sheet rows) name (nameKey name) (childPosition rows) (typePosition rows names name) (firstLive sheet rows) (nodeCount sheet) (testLimit sheet)
+    go : (b : Bool) → length (foundIn (cond b (tagScan sheet program nodes (liveRanges sheet rows) name (nameKey name) (childPosition rows) (typePosition rows names name) (firstLive sheet rows) (nodeCount sheet) (length sheet)) (stopped [] (firstLive sheet rows)))) ≤ nodeCount sheet
+    go true = tag-few sheet program nodes (liveRanges sheet rows) name (nameKey name) (childPosition rows) (typePosition rows names name) (firstLive sheet rows) (nodeCount sheet) (length sheet)
     go false = omega arith
 
 pub resumed-few : (sheet program rows names nodes name input outlines : List ℕ) → getD rows 7 0 ≤ nodeCount sheet → length (resumed sheet program rows names nodes name input outlines) ≤ nodeCount sheet
 unfolding resumed
 resumed-few sheet program rows names nodes name input outlines h =
-    let a = attribute-few sheet program nodes (liveRanges sheet rows) name (nameKey name) (childPosition rows) (typePosition rows names name) (heldCursor rows) (nodeCount sheet - getD rows 7 0) (testLimit sheet) (isHtml (heldKind rows)) (attributesOf input outlines) in
+    let a = attribute-few sheet program nodes (liveRanges sheet rows) name (nameKey name) (childPosition rows) (typePosition rows names name) (heldCursor rows) (nodeCount sheet - getD rows 7 0) (length sheet) (isHtml (heldKind rows)) (attributesOf input outlines) in
     let b = length-cells nodes foundFrom (getD rows 7 0) in
     rw length-append (omega (arith, a, b, h))
 

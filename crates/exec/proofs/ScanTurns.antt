@@ -39,27 +39,27 @@ module _ (program : List ℕ) (key : ℕ) (passes : ℕ → Bool) (no : (a : ℕ
 
 -- ---- the next live instruction
 
-module _ (program nodes : List ℕ) (ranges : Ranges) (key : ℕ) (c : Cursor) (left tests : ℕ) where
+module _ (sheet program nodes : List ℕ) (ranges : Ranges) (key : ℕ) (c : Cursor) (left bytes : ℕ) where
   -- what an answer of the search says
   pub record At (d : Cursor) (more rest : ℕ) : Type 0 where
-    pub list : fromKeyed program key (live program nodes ranges key c left tests) ≡ d ∷ live program nodes ranges key (afterCursor d) more rest
+    pub list : fromKeyed program key (live sheet program nodes ranges key c left bytes) ≡ d ∷ live sheet program nodes ranges key (afterCursor d) more rest
     pub fits : keyFits program key (d .at) ≡ true
     pub below : d .at < 2 ^ 16
     pub less : more < left
 
-  pub reached-at : (r : Live) (d : Cursor) (more rest : ℕ) → Within program nodes ranges key c left tests r → r ≡ Live.At d more rest → At d more rest
+  pub reached-at : (r : Live) (d : Cursor) (more rest : ℕ) → Within sheet program nodes ranges key c left bytes r → r ≡ Live.At d more rest → At d more rest
   unfolding Within
   reached-at r d more rest h e =
-      let g : Within program nodes ranges key c left tests (Live.At d more rest) = subst (Within program nodes ranges key c left tests) e h in
+      let g : Within sheet program nodes ranges key c left bytes (Live.At d more rest) = subst (Within sheet program nodes ranges key c left bytes) e h in
       record { list = g .0; fits = g .1 .0; below = g .1 .1 .0; less = g .1 .1 .1 }
 
-  pub reached-over : (r : Live) → Within program nodes ranges key c left tests r → r ≡ Live.Over → fromKeyed program key (live program nodes ranges key c left tests) ≡ []
+  pub reached-over : (r : Live) → Within sheet program nodes ranges key c left bytes r → r ≡ Live.Over → fromKeyed program key (live sheet program nodes ranges key c left bytes) ≡ []
   unfolding Within
-  reached-over r h e = subst (Within program nodes ranges key c left tests) e h
+  reached-over r h e = subst (Within sheet program nodes ranges key c left bytes) e h
 
 -- ---- the scan by the tag alone
 
-module _ (sheet program nodes : List ℕ) (ranges : Ranges) (name : List ℕ) (key child ofType : ℕ) (c : Cursor) (left tests : ℕ) where
+module _ (sheet program nodes : List ℕ) (ranges : Ranges) (name : List ℕ) (key child ofType : ℕ) (c : Cursor) (left bytes : ℕ) where
   no-key : (a : ℕ) → keyFits program key a ≡ false → tagPasses sheet program name key child ofType a ≡ false
   unfolding tagPasses
   no-key a e = rw e
@@ -68,25 +68,25 @@ module _ (sheet program nodes : List ℕ) (ranges : Ranges) (name : List ℕ) (k
   unfolding tagPasses
   keyed a b e f = rw e (sym f)
 
-  keyed-scan : (cs : List Cursor) → fromKeyed program key (live program nodes ranges key c left tests) ≡ cs → tagScan sheet program nodes ranges name key child ofType c left tests ≡ seek (tagPasses sheet program name key child ofType) (asks program) cs
+  keyed-scan : (cs : List Cursor) → fromKeyed program key (live sheet program nodes ranges key c left bytes) ≡ cs → tagScan sheet program nodes ranges name key child ofType c left bytes ≡ seek (tagPasses sheet program name key child ofType) (asks program) cs
   unfolding tagScan
-  keyed-scan cs e = seek-keyed program key (tagPasses sheet program name key child ofType) no-key (asks program) (live program nodes ranges key c left tests) ∙ ap (seek (tagPasses sheet program name key child ofType) (asks program)) e
+  keyed-scan cs e = seek-keyed program key (tagPasses sheet program name key child ofType) no-key (asks program) (live sheet program nodes ranges key c left bytes) ∙ ap (seek (tagPasses sheet program name key child ofType) (asks program)) e
 
-  pub tag-over : fromKeyed program key (live program nodes ranges key c left tests) ≡ [] → tagScan sheet program nodes ranges name key child ofType c left tests ≡ over []
+  pub tag-over : fromKeyed program key (live sheet program nodes ranges key c left bytes) ≡ [] → tagScan sheet program nodes ranges name key child ofType c left bytes ≡ over []
   unfolding seek
   tag-over e = keyed-scan [] e
 
-  module _ (d : Cursor) (more rest : ℕ) (at : At program nodes ranges key c left tests d more rest) (passes : Bool) (tested : passes ≡ tagTestsPass sheet program name child ofType (d .at)) (next : Cursor) (stepped : next ≡ afterCursor d) where
-    pub tag-fails : passes ≡ false → tagScan sheet program nodes ranges name key child ofType c left tests ≡ tagScan sheet program nodes ranges name key child ofType next more rest
+  module _ (d : Cursor) (more rest : ℕ) (at : At sheet program nodes ranges key c left bytes d more rest) (passes : Bool) (tested : passes ≡ tagTestsPass sheet program name child ofType (d .at)) (next : Cursor) (stepped : next ≡ afterCursor d) where
+    pub tag-fails : passes ≡ false → tagScan sheet program nodes ranges name key child ofType c left bytes ≡ tagScan sheet program nodes ranges name key child ofType next more rest
     unfolding seek tagScan
     tag-fails e = rw stepped (keyed-scan _ (at .list) ∙ rw (keyed (d .at) passes (at .fits) tested, e))
 
     module _ (asking : Bool) (asked : asking ≡ asks program (d .at)) where
-      pub tag-stops : passes ≡ true → asking ≡ true → tagScan sheet program nodes ranges name key child ofType c left tests ≡ stopped [] d
+      pub tag-stops : passes ≡ true → asking ≡ true → tagScan sheet program nodes ranges name key child ofType c left bytes ≡ stopped [] d
       unfolding seek
       tag-stops e f = keyed-scan _ (at .list) ∙ rw (keyed (d .at) passes (at .fits) tested, e, ← asked, f)
 
-      pub tag-finds : passes ≡ true → asking ≡ false → tagScan sheet program nodes ranges name key child ofType c left tests ≡ foundToo (d .at) (tagScan sheet program nodes ranges name key child ofType next more rest)
+      pub tag-finds : passes ≡ true → asking ≡ false → tagScan sheet program nodes ranges name key child ofType c left bytes ≡ foundToo (d .at) (tagScan sheet program nodes ranges name key child ofType next more rest)
       unfolding seek tagScan
       tag-finds e f = rw stepped (keyed-scan _ (at .list) ∙ rw (keyed (d .at) passes (at .fits) tested, e, ← asked, f))
 
@@ -121,7 +121,7 @@ module _ (found₀ : List ℕ) (whole : Sought) (found : List ℕ) (count : ℕ)
 
 -- ---- the scan with attributes
 
-module _ (sheet program nodes : List ℕ) (ranges : Ranges) (name : List ℕ) (key child ofType : ℕ) (html : Bool) (attributes : List Attribute) (c : Cursor) (left tests : ℕ) where
+module _ (sheet program nodes : List ℕ) (ranges : Ranges) (name : List ℕ) (key child ofType : ℕ) (html : Bool) (attributes : List Attribute) (c : Cursor) (left bytes : ℕ) where
   abbrev scanned : Cursor → ℕ → ℕ → List ℕ
   scanned x n m = attributeScan sheet program nodes ranges name key child ofType html attributes x n m
 
@@ -133,25 +133,25 @@ module _ (sheet program nodes : List ℕ) (ranges : Ranges) (name : List ℕ) (k
   unfolding allPass tagPasses
   keyed-all a b e f = rw (e, ← f)
 
-  keyed-keep : (cs : List Cursor) → fromKeyed program key (live program nodes ranges key c left tests) ≡ cs → scanned c left tests ≡ keep (allPass sheet program name key child ofType html attributes) (ats cs)
+  keyed-keep : (cs : List Cursor) → fromKeyed program key (live sheet program nodes ranges key c left bytes) ≡ cs → scanned c left bytes ≡ keep (allPass sheet program name key child ofType html attributes) (ats cs)
   unfolding attributeScan
-  keyed-keep cs e = keep-keyed program key (allPass sheet program name key child ofType html attributes) no-key-all (live program nodes ranges key c left tests) ∙ ap (λ l. keep (allPass sheet program name key child ofType html attributes) (ats l)) e
+  keyed-keep cs e = keep-keyed program key (allPass sheet program name key child ofType html attributes) no-key-all (live sheet program nodes ranges key c left bytes) ∙ ap (λ l. keep (allPass sheet program name key child ofType html attributes) (ats l)) e
 
-  pub all-over : fromKeyed program key (live program nodes ranges key c left tests) ≡ [] → scanned c left tests ≡ []
+  pub all-over : fromKeyed program key (live sheet program nodes ranges key c left bytes) ≡ [] → scanned c left bytes ≡ []
   unfolding keep
   all-over e = keyed-keep [] e
 
-  module _ (d : Cursor) (more rest : ℕ) (at : At program nodes ranges key c left tests d more rest) (passes : Bool) (tested : passes ≡ tagTestsPass sheet program name child ofType (d .at)) (next : Cursor) (stepped : next ≡ afterCursor d) where
-    pub tag-refuses : passes ≡ false → scanned c left tests ≡ scanned next more rest
+  module _ (d : Cursor) (more rest : ℕ) (at : At sheet program nodes ranges key c left bytes d more rest) (passes : Bool) (tested : passes ≡ tagTestsPass sheet program name child ofType (d .at)) (next : Cursor) (stepped : next ≡ afterCursor d) where
+    pub tag-refuses : passes ≡ false → scanned c left bytes ≡ scanned next more rest
     unfolding keep attributeScan
     tag-refuses e = rw stepped (keyed-keep _ (at .list) ∙ rw (keyed-all (d .at) passes (at .fits) tested, e))
 
     module _ (holds : Bool) (held : holds ≡ attributePasses sheet program html attributes (d .at)) where
-      pub attributes-refuse : passes ≡ true → holds ≡ false → scanned c left tests ≡ scanned next more rest
+      pub attributes-refuse : passes ≡ true → holds ≡ false → scanned c left bytes ≡ scanned next more rest
       unfolding keep attributeScan
       attributes-refuse e f = rw stepped (keyed-keep _ (at .list) ∙ rw (keyed-all (d .at) passes (at .fits) tested, e, ← held, f))
 
-      pub all-find : passes ≡ true → holds ≡ true → scanned c left tests ≡ d .at ∷ scanned next more rest
+      pub all-find : passes ≡ true → holds ≡ true → scanned c left bytes ≡ d .at ∷ scanned next more rest
       unfolding keep attributeScan
       all-find e f = rw stepped (keyed-keep _ (at .list) ∙ rw (keyed-all (d .at) passes (at .fits) tested, e, ← held, f))
 

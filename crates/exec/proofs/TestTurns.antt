@@ -1,5 +1,5 @@
 -- Turns of the loops over an instruction's tests.
-use mathlib.Core.Path.{_≡_}
+use mathlib.Core.Path.{_≡_, _∙_}
 use mathlib.Core.Bool.{Bool, true, false}
 use mathlib.Core.List.{List}
 use Prim.Native.Nat.{ℕ, suc, _+_, _-_, _*_, _/_, _%_, _<_, _≤_}
@@ -8,7 +8,8 @@ use lib.ListN.{getD}
 use Rattle.cells.specs.Numbers.{part, be16}
 use Rattle.rules.specs.Attributes.{Attribute}
 use Rattle.node_tests.specs.Tests.{tagTestHolds, readTagTest, attributeTestHolds, readAttributeTest}
-use Rattle.exec.specs.Instructions.{testsEnd, tagTestsHold, attributeTestsHold, tagTestsPass, attributePasses}
+use Rattle.exec.specs.Cursors.{rowWord}
+use Rattle.exec.specs.Instructions.{testsEnd, tagCount, attributeCount, tagTestsHold, attributeTestsHold, tagTestsPass, attributePasses}
 
 module _ (sheet : List ℕ) (n at : ℕ) where
   pub end-none : n ≤ 0 → testsEnd sheet n at ≡ at
@@ -58,3 +59,8 @@ module _ (sheet program : List ℕ) (a counts first : ℕ) (c : counts ≡ getD 
       → r ≡ attributePasses sheet program html attributes a
   unfolding attributePasses
   attribute-row html attributes from r g e = rw (← c, ← f, ← g) e
+
+-- the bytes that an instruction's tests take
+pub bytes-row : (sheet program : List ℕ) (a counts from end : ℕ) → counts ≡ rowWord program a 2 → from ≡ rowWord program a 1 → end ≡ testsEnd sheet (counts / 256 % 256 + counts % 256) from
+    → end - from ≡ testsEnd sheet (tagCount program a + attributeCount program a) (rowWord program a 1) - rowWord program a 1
+bytes-row sheet program a counts from end e f g = (λ i. g i - from) ∙ (λ i. testsEnd sheet (e i / 256 % 256 + e i % 256) (f i) - f i)

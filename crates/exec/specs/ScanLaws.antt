@@ -20,23 +20,23 @@ pub length-ats : (cs : List Cursor) → length (ats cs) ≡ length cs
 length-ats [] = refl
 length-ats (c ∷ cs) = ap suc (length-ats cs)
 
--- ---- the budget of tests
+-- ---- the budget of bytes
 
--- The tests that instructions take in all.
-unfoldable pub testsIn : List ℕ → ℕ → List Cursor → ℕ
-testsIn program key [] = 0
-testsIn program key (c ∷ cs) = testsTaken program key (c .at) + testsIn program key cs
+-- The bytes of tests that instructions take in all.
+unfoldable pub testsIn : (sheet program : List ℕ) → ℕ → List Cursor → ℕ
+testsIn sheet program key [] = 0
+testsIn sheet program key (c ∷ cs) = testsTaken sheet program key (c .at) + testsIn sheet program key cs
 
 -- If they are within the budget, it changes nothing.
-within-all : (program : List ℕ) (key tests : ℕ) (cs : List Cursor) → testsIn program key cs ≤ tests → withinTests program key tests cs ≡ cs
+within-all : (sheet program : List ℕ) (key bytes : ℕ) (cs : List Cursor) → testsIn sheet program key cs ≤ bytes → withinTests sheet program key bytes cs ≡ cs
 unfolding testsIn withinTests
-within-all program key tests [] h = refl
-within-all program key tests (c ∷ cs) h = rw (le-ltb tests (testsTaken program key (c .at)) (omega arith)) (ap (λ l. c ∷ l) (within-all program key (tests - testsTaken program key (c .at)) cs (omega arith)))
+within-all sheet program key bytes [] h = refl
+within-all sheet program key bytes (c ∷ cs) h = rw (le-ltb bytes (testsTaken sheet program key (c .at)) (omega arith)) (ap (λ l. c ∷ l) (within-all sheet program key (bytes - testsTaken sheet program key (c .at)) cs (omega arith)))
 
-pub live-all : (program nodes : List ℕ) (ranges : Ranges) (key : ℕ) (from : Cursor) (budget tests : ℕ) → length (rest program nodes ranges from) ≤ budget → testsIn program key (rest program nodes ranges from) ≤ tests
-    → live program nodes ranges key from budget tests ≡ rest program nodes ranges from
+pub live-all : (sheet program nodes : List ℕ) (ranges : Ranges) (key : ℕ) (from : Cursor) (budget bytes : ℕ) → length (rest program nodes ranges from) ≤ budget → testsIn sheet program key (rest program nodes ranges from) ≤ bytes
+    → live sheet program nodes ranges key from budget bytes ≡ rest program nodes ranges from
 unfolding live
-live-all program nodes ranges key from budget tests fits few = rw (take-all budget (rest program nodes ranges from) fits) (within-all program key tests (rest program nodes ranges from) few)
+live-all sheet program nodes ranges key from budget bytes fits few = rw (take-all budget (rest program nodes ranges from) fits) (within-all sheet program key bytes (rest program nodes ranges from) few)
 
 module _ (program nodes : List ℕ) (ranges : Ranges) where
   -- ---- a scan over cursors is a scan over addresses
@@ -69,12 +69,12 @@ module _ (program nodes : List ℕ) (ranges : Ranges) where
 
   -- ---- stopped and gone on is all at once
 
-  module _ (key : ℕ) (passes asking all : ℕ → Bool) (less : (a : ℕ) → passes a ≡ false → all a ≡ false) (same : (a : ℕ) → passes a ≡ true → asking a ≡ false → all a ≡ true) where
+  module _ (sheet : List ℕ) (key : ℕ) (passes asking all : ℕ → Bool) (less : (a : ℕ) → passes a ≡ false → all a ≡ false) (same : (a : ℕ) → passes a ≡ true → asking a ≡ false → all a ≡ true) where
     abbrev Whole : List Cursor → Sought → Type 0
     Whole cs (over found) = keep all (ats cs) ≡ found
     Whole cs (stopped found c) =
         (keep all (ats cs) ≡ found ++ keep all (ats (rest program nodes ranges c)))
-        × ((length found + length (rest program nodes ranges c) ≤ length cs) × (testsIn program key (rest program nodes ranges c) ≤ testsIn program key cs))
+        × ((length found + length (rest program nodes ranges c) ≤ length cs) × (testsIn sheet program key (rest program nodes ranges c) ≤ testsIn sheet program key cs))
 
     skips : (c : Cursor) (cs : List Cursor) (s : Sought) → all (c .at) ≡ false → Whole cs s → Whole (c ∷ cs) s
     unfolding keep testsIn
@@ -93,7 +93,7 @@ module _ (program nodes : List ℕ) (ranges : Ranges) where
       where
         go : (a : Bool) → passes (c .at) ≡ a → (b : Bool) → asking (c .at) ≡ b → Whole cs (seek passes asking cs) → Whole (c ∷ cs) (cond a (cond b (stopped [] c) (foundToo (c .at) (seek passes asking cs))) (seek passes asking cs))
         go false p b q w = skips c cs (seek passes asking cs) (less (c .at) p) w
-        go true p true q w = let n = ap length e in let m = ap (testsIn program key) e in (ap (λ l. keep all (ats l)) (sym e), (omega arith, omega arith))
+        go true p true q w = let n = ap length e in let m = ap (testsIn sheet program key) e in (ap (λ l. keep all (ats l)) (sym e), (omega arith, omega arith))
         go true p false q w = takes c cs (seek passes asking cs) (same (c .at) p q) w
 
 module _ (sheet program nodes : List ℕ) (ranges : Ranges) (name : List ℕ) (key child ofType : ℕ) (html : Bool) (attributes : List Attribute) where
@@ -117,37 +117,37 @@ module _ (sheet program nodes : List ℕ) (ranges : Ranges) (name : List ℕ) (k
   abbrev allScanned : Cursor → ℕ → ℕ → List ℕ
   allScanned = attributeScan sheet program nodes ranges name key child ofType html attributes
 
-  module _ (from : Cursor) (budget tests : ℕ) (fits : length (rest program nodes ranges from) ≤ budget) (few : testsIn program key (rest program nodes ranges from) ≤ tests) where
+  module _ (from : Cursor) (budget bytes : ℕ) (fits : length (rest program nodes ranges from) ≤ budget) (few : testsIn sheet program key (rest program nodes ranges from) ≤ bytes) where
     -- If the live instructions fit the budgets, these change nothing.
-    pub tag-scan-all : tagScanned from budget tests ≡ seek passesTag (asks program) (rest program nodes ranges from)
+    pub tag-scan-all : tagScanned from budget bytes ≡ seek passesTag (asks program) (rest program nodes ranges from)
     unfolding tagScan
-    tag-scan-all = rw (live-all program nodes ranges key from budget tests fits few)
+    tag-scan-all = rw (live-all sheet program nodes ranges key from budget bytes fits few)
 
-    pub attribute-scan-all : allScanned from budget tests ≡ keep passesAll (ats (rest program nodes ranges from))
+    pub attribute-scan-all : allScanned from budget bytes ≡ keep passesAll (ats (rest program nodes ranges from))
     unfolding attributeScan
-    attribute-scan-all = rw (live-all program nodes ranges key from budget tests fits few)
+    attribute-scan-all = rw (live-all sheet program nodes ranges key from budget bytes fits few)
 
     module _ (own : Own program nodes ranges (rest program nodes ranges from)) where
       abbrev Found : Sought → Type 0
-      Found = Whole program nodes ranges key passesTag (asks program) passesAll less-all same-all (rest program nodes ranges from)
+      Found = Whole program nodes ranges sheet key passesTag (asks program) passesAll less-all same-all (rest program nodes ranges from)
 
-      found-so : (s : Sought) → tagScanned from budget tests ≡ s → Found s
-      found-so s e = subst Found (sym tag-scan-all ∙ e) (whole program nodes ranges key passesTag (asks program) passesAll less-all same-all (rest program nodes ranges from) own)
+      found-so : (s : Sought) → tagScanned from budget bytes ≡ s → Found s
+      found-so s e = subst Found (sym tag-scan-all ∙ e) (whole program nodes ranges sheet key passesTag (asks program) passesAll less-all same-all (rest program nodes ranges from) own)
 
       -- A scan by the tag that comes to its end has found what matches with any attributes.
-      pub ended : (found : List ℕ) → tagScanned from budget tests ≡ over found → allScanned from budget tests ≡ found
+      pub ended : (found : List ℕ) → tagScanned from budget bytes ≡ over found → allScanned from budget bytes ≡ found
       ended found e = attribute-scan-all ∙ found-so (over found) e
 
-      -- One that stops, resumed at its cursor, finds the rest; the instructions that are left of the budget and the tests of a new call are enough for it.
-      pub resumed : (found : List ℕ) (c : Cursor) → tagScanned from budget tests ≡ stopped found c
+      -- One that stops, resumed at its cursor, finds the rest; the instructions that are left of the budget and the bytes of a new call are enough for it.
+      pub resumed : (found : List ℕ) (c : Cursor) → tagScanned from budget bytes ≡ stopped found c
           → (length (rest program nodes ranges c) ≤ budget - length found)
-          × ((testsIn program key (rest program nodes ranges c) ≤ tests)
-          × (allScanned from budget tests ≡ found ++ allScanned c (budget - length found) tests))
+          × ((testsIn sheet program key (rest program nodes ranges c) ≤ bytes)
+          × (allScanned from budget bytes ≡ found ++ allScanned c (budget - length found) bytes))
       unfolding attributeScan
       resumed found c e =
           let w = found-so (stopped found c) e in
           let k = w .1 .0 in
           let m = w .1 .1 in
           let n : length (rest program nodes ranges c) ≤ budget - length found = omega arith in
-          let l : testsIn program key (rest program nodes ranges c) ≤ tests = omega arith in
-          (n, (l, attribute-scan-all ∙ w .0 ∙ rw (live-all program nodes ranges key c (budget - length found) tests n l)))
+          let l : testsIn sheet program key (rest program nodes ranges c) ≤ bytes = omega arith in
+          (n, (l, attribute-scan-all ∙ w .0 ∙ rw (live-all sheet program nodes ranges key c (budget - length found) bytes n l)))

@@ -1,15 +1,15 @@
 -- Scans over the live instructions (01, section 4: when a tag waits, and what it matches).
 use mathlib.Core.Bool.{Bool, true, false, cond, _&&_}
 use mathlib.Core.List.{List, [], _∷_}
-use Prim.Native.Nat.{ℕ, _+_, _-_, _/_}
+use Prim.Native.Nat.{ℕ, _+_, _-_}
 use lib.Dec.{ltb}
 use lib.ListN.{length, take}
 use Rattle.rules.specs.Attributes.{Attribute}
 use Rattle.exec.specs.declared.cursor.Cursor.{Cursor}
 use Rattle.exec.specs.declared.cursor.Ranges.{Ranges}
 use Rattle.exec.specs.declared.scan.Scanned.{Scanned}
-use Rattle.exec.specs.Cursors.{cursorOf, rest, ats}
-use Rattle.exec.specs.Instructions.{keyFits, tagCount, attributeCount, tagPasses, attributePasses, asks}
+use Rattle.exec.specs.Cursors.{cursorOf, rowWord, rest, ats}
+use Rattle.exec.specs.Instructions.{keyFits, testsEnd, tagCount, attributeCount, tagPasses, attributePasses, asks}
 
 -- The members that pass a test, in their order.
 unfoldable pub keep : (ℕ → Bool) → List ℕ → List ℕ
@@ -43,31 +43,28 @@ answerFrom count (stopped found c) = record { count = count + length found; stuc
 
 -- ---- What one call may go over, whatever the stores hold.
 
--- The tests that an instruction takes: all its own if its key fits the tag's, else none.
-unfoldable pub testsTaken : List ℕ → ℕ → ℕ → ℕ
-testsTaken program key a = cond (keyFits program key a) (tagCount program a + attributeCount program a) 0
+-- The bytes of its tests that an instruction takes: all of them if its key fits the tag's, else none.
+unfoldable pub testsTaken : (sheet program : List ℕ) → ℕ → ℕ → ℕ
+testsTaken sheet program key a =
+    cond (keyFits program key a) (testsEnd sheet (tagCount program a + attributeCount program a) (rowWord program a 1) - rowWord program a 1) 0
 
--- The cursors from the first on, as far as so many tests go.
-unfoldable pub withinTests : List ℕ → ℕ → ℕ → List Cursor → List Cursor
-withinTests program key tests [] = []
-withinTests program key tests (c ∷ cs) =
-    cond (ltb tests (testsTaken program key (c .at))) []
-    (c ∷ withinTests program key (tests - testsTaken program key (c .at)) cs)
+-- The cursors from the first on, as far as so many bytes of tests go.
+unfoldable pub withinTests : (sheet program : List ℕ) → ℕ → ℕ → List Cursor → List Cursor
+withinTests sheet program key bytes [] = []
+withinTests sheet program key bytes (c ∷ cs) =
+    cond (ltb bytes (testsTaken sheet program key (c .at))) []
+    (c ∷ withinTests sheet program key (bytes - testsTaken sheet program key (c .at)) cs)
 
--- A sheet has room for so many tests: each takes four bytes at the least (01, section 1).
-abbrev pub testLimit : List ℕ → ℕ
-testLimit sheet = length sheet / 4
-
--- The live instructions from a cursor on, as many as the budgets of instructions and of tests allow.
-unfoldable pub live : (program nodes : List ℕ) → Ranges → (key : ℕ) → Cursor → (budget tests : ℕ) → List Cursor
-live program nodes ranges key from budget tests = withinTests program key tests (take budget (rest program nodes ranges from))
+-- The live instructions from a cursor on, as many as the budgets allow: so many instructions, and so many bytes of tests.
+unfoldable pub live : (sheet program nodes : List ℕ) → Ranges → (key : ℕ) → Cursor → (budget bytes : ℕ) → List Cursor
+live sheet program nodes ranges key from budget bytes = withinTests sheet program key bytes (take budget (rest program nodes ranges from))
 
 -- ---- The two scans.
 
--- The scan of a tag from a cursor on.
-unfoldable pub tagScan : (sheet program nodes : List ℕ) → Ranges → (name : List ℕ) → (key child ofType : ℕ) → Cursor → (budget tests : ℕ) → Sought
-tagScan sheet program nodes ranges name key child ofType from budget tests =
-    seek (tagPasses sheet program name key child ofType) (asks program) (live program nodes ranges key from budget tests)
+-- The scan of a tag from a cursor on. The tests of one call take no more bytes than the sheet has.
+unfoldable pub tagScan : (sheet program nodes : List ℕ) → Ranges → (name : List ℕ) → (key child ofType : ℕ) → Cursor → (budget bytes : ℕ) → Sought
+tagScan sheet program nodes ranges name key child ofType from budget bytes =
+    seek (tagPasses sheet program name key child ofType) (asks program) (live sheet program nodes ranges key from budget bytes)
 
 -- All tests of an instruction hold.
 unfoldable pub allPass : (sheet program name : List ℕ) → (key child ofType : ℕ) → Bool → List Attribute → ℕ → Bool
@@ -75,6 +72,6 @@ allPass sheet program name key child ofType html attributes a =
     tagPasses sheet program name key child ofType a && attributePasses sheet program html attributes a
 
 -- The instructions from a cursor on that match with the attributes at hand.
-unfoldable pub attributeScan : (sheet program nodes : List ℕ) → Ranges → (name : List ℕ) → (key child ofType : ℕ) → Bool → List Attribute → Cursor → (budget tests : ℕ) → List ℕ
-attributeScan sheet program nodes ranges name key child ofType html attributes from budget tests =
-    keep (allPass sheet program name key child ofType html attributes) (ats (live program nodes ranges key from budget tests))
+unfoldable pub attributeScan : (sheet program nodes : List ℕ) → Ranges → (name : List ℕ) → (key child ofType : ℕ) → Bool → List Attribute → Cursor → (budget bytes : ℕ) → List ℕ
+attributeScan sheet program nodes ranges name key child ofType html attributes from budget bytes =
+    keep (allPass sheet program name key child ofType html attributes) (ats (live sheet program nodes ranges key from budget bytes))

@@ -41,9 +41,9 @@ Reached program nodes ranges key from budget (Candidate.At d left) =
     (fromKeyed program key (take budget (rest program nodes ranges from)) ≡ d ∷ take left (rest program nodes ranges (afterCursor d)))
     × ((keyFits program key (d .at) ≡ true) × ((d .at < 2 ^ 16) × (left < budget)))
 
--- The same with the budget of tests: a candidate whose tests go past it ends the search.
-unfoldable pub Within : (program nodes : List ℕ) → Ranges → (key : ℕ) → Cursor → (budget tests : ℕ) → Live → Type 0
-Within program nodes ranges key from budget tests Live.Over = fromKeyed program key (live program nodes ranges key from budget tests) ≡ []
-Within program nodes ranges key from budget tests (Live.At d left more) =
-    (fromKeyed program key (live program nodes ranges key from budget tests) ≡ d ∷ live program nodes ranges key (afterCursor d) left more)
+-- The same with the budget of bytes: a candidate whose tests go past it ends the search.
+unfoldable pub Within : (sheet program nodes : List ℕ) → Ranges → (key : ℕ) → Cursor → (budget bytes : ℕ) → Live → Type 0
+Within sheet program nodes ranges key from budget bytes Live.Over = fromKeyed program key (live sheet program nodes ranges key from budget bytes) ≡ []
+Within sheet program nodes ranges key from budget bytes (Live.At d left more) =
+    (fromKeyed program key (live sheet program nodes ranges key from budget bytes) ≡ d ∷ live sheet program nodes ranges key (afterCursor d) left more)
     × ((keyFits program key (d .at) ≡ true) × ((d .at < 2 ^ 16) × (left < budget)))

@@ -5,9 +5,10 @@ use cells::part_of;
 use node_tests::attribute_test;
 use node_tests::tag_test;
 ghost use mathlib.Core.Path.{_≡_};
-ghost use Prim.Native.Nat.{_<_, _^_};
+ghost use Prim.Native.Nat.{_+_, _-_, _<_, _≤_, _^_};
 ghost use Rattle.rules.specs.Attributes.{attributesOf};
-ghost use Rattle.exec.specs.Instructions.{tagTestsHold, attributeTestsHold, testsEnd, tagTestsPass, attributePasses, asks};
+ghost use Rattle.exec.specs.Cursors.{rowWord};
+ghost use Rattle.exec.specs.Instructions.{tagTestsHold, attributeTestsHold, testsEnd, tagCount, attributeCount, tagTestsPass, attributePasses, asks};
 
 // So many tag tests from a place of the sheet on.
 fn tag_tests(sheet: &[u8], name: &[u8], child: u32, of_type: u32, count: usize, from: usize) -> bool
@@ -54,8 +55,8 @@ fn attribute_tests(
 
 // Where so many tests end.
 fn tests_end(sheet: &[u8], count: usize, from: usize) -> usize
-    requires { ⌜ (count < 2 ^ 8) × (from < 2 ^ 48) ⌝ }
-    ensures { λ r. ⌜ (r ≡ testsEnd (now (sheet .entry)) count from) × (r < 2 ^ 49) ⌝ }
+    requires { ⌜ (count < 2 ^ 9) × (from < 2 ^ 48) ⌝ }
+    ensures { λ r. ⌜ (r ≡ testsEnd (now (sheet .entry)) count from) × ((from ≤ r) × (r < 2 ^ 49)) ⌝ }
 {
     let mut left = count;
     let mut at = from;
@@ -64,6 +65,16 @@ fn tests_end(sheet: &[u8], count: usize, from: usize) -> usize
         left -= 1;
     }
     at
+}
+
+// How many bytes of the sheet the tests of an instruction take.
+pub fn tests_bytes(sheet: &[u8], program: &[u32], a: u16) -> usize
+    ensures { λ r. ⌜ r ≡ testsEnd (now (sheet .entry)) (tagCount (now (program .entry)) a + attributeCount (now (program .entry)) a) (rowWord (now (program .entry)) a 1) - rowWord (now (program .entry)) a 1 ⌝ }
+{
+    let row = a as usize * 8;
+    let counts = at32(program, row + 2);
+    let from = at32(program, row + 1);
+    tests_end(sheet, counts / 256 % 256 + counts % 256, from) - from
 }
 
 // Whether all tag tests of an instruction hold, its key apart.

@@ -5,7 +5,7 @@ use crate::cursor::Ranges;
 use crate::instruction::asks_attributes;
 use crate::instruction::attributes_pass;
 use crate::instruction::tag_tests_pass;
-use cells::at32;
+use crate::instruction::tests_bytes;
 use cells::get32;
 use cells::put16;
 ghost use mathlib.Core.Path.{_≡_};
@@ -13,8 +13,7 @@ ghost use Prim.Native.Nat.{_+_, _≤_, _<_, _^_, max};
 ghost use lib.ListN.{length};
 ghost use Rattle.cells.specs.Stretches.{written};
 ghost use Rattle.rules.specs.Attributes.{attributesOf};
-ghost use Rattle.exec.specs.Instructions.{tagCount, attributeCount};
-ghost use Rattle.exec.specs.Scans.{testLimit, tagScan, answerFrom, foundIn, attributeScan};
+ghost use Rattle.exec.specs.Scans.{tagScan, answerFrom, foundIn, attributeScan};
 ghost use Rattle.exec.specs.Searching.{Reached, Within, affordable, firstKeyed};
 
 // How many instructions matched, and whether one asks for attributes: the cursor stands on it, or is all 0.
@@ -30,7 +29,7 @@ enum Candidate {
     Over,
 }
 
-// The same, with the budget of tests after it.
+// The same, with the bytes of tests that are left after it.
 enum Live {
     At(Cursor, usize, usize),
     Over,
@@ -112,33 +111,26 @@ fn next_candidate(
     Candidate::Over
 }
 
-// How many tests an instruction has.
-fn tests_of(program: &[u32], a: u16) -> usize
-    ensures { λ r. ⌜ r ≡ tagCount (now (program .entry)) a + attributeCount (now (program .entry)) a ⌝ }
-{
-    let counts = at32(program, a as usize * 8 + 2);
-    counts / 256 % 256 + counts % 256
-}
-
-// The next instruction whose key fits, if its tests are within the budget of tests too.
+// The next instruction whose key fits, if its tests are within the budget of bytes too.
 fn next_live(
+    sheet: &[u8],
     program: &[u32],
     nodes: &[u16],
     ranges: Ranges,
     key: u32,
     from: Cursor,
     budget: usize,
-    tests: usize,
+    bytes: usize,
 ) -> Live
-    ensures { λ r. ⌜ Within (now (program .entry)) (now (nodes .entry)) ranges key from budget tests r ⌝ }
+    ensures { λ r. ⌜ Within (now (sheet .entry)) (now (program .entry)) (now (nodes .entry)) ranges key from budget bytes r ⌝ }
 {
     match next_candidate(program, nodes, ranges, key, from, budget) {
         Candidate::At(d, left) => {
-            let taken = tests_of(program, d.at as u16);
-            if tests < taken {
+            let taken = tests_bytes(sheet, program, d.at as u16);
+            if bytes < taken {
                 return Live::Over;
             }
-            Live::At(d, left, tests - taken)
+            Live::At(d, left, bytes - taken)
         }
         Candidate::Over => Live::Over,
     }
@@ -159,21 +151,21 @@ pub fn scan_tag(
     found: &mut [u16],
 ) -> Scanned
     ensures { λ r. ⌜
-        (r ≡ answerFrom 0 (tagScan (now (sheet .entry)) (now (program .entry)) (now (nodes .entry)) ranges (now (name .entry)) key child «of_type» from budget (testLimit (now (sheet .entry)))))
-        × (now (found .exit) ≡ written (now (found .entry)) 0 (foundIn (tagScan (now (sheet .entry)) (now (program .entry)) (now (nodes .entry)) ranges (now (name .entry)) key child «of_type» from budget (testLimit (now (sheet .entry))))))
+        (r ≡ answerFrom 0 (tagScan (now (sheet .entry)) (now (program .entry)) (now (nodes .entry)) ranges (now (name .entry)) key child «of_type» from budget (length (now (sheet .entry)))))
+        × (now (found .exit) ≡ written (now (found .entry)) 0 (foundIn (tagScan (now (sheet .entry)) (now (program .entry)) (now (nodes .entry)) ranges (now (name .entry)) key child «of_type» from budget (length (now (sheet .entry))))))
         ⌝ }
 {
     let mut c = from;
     let mut left = budget as usize;
-    let mut tests = sheet.len() / 4;
+    let mut bytes = sheet.len();
     let mut count = 0;
     loop {
-        match next_live(program, nodes, ranges, key, c, left, tests) {
+        match next_live(sheet, program, nodes, ranges, key, c, left, bytes) {
             Live::At(d, more, rest) => {
                 let a = d.at as u16;
                 c = d.next();
                 left = more;
-                tests = rest;
+                bytes = rest;
                 if tag_tests_pass(sheet, program, a, name, child, of_type) {
                     if asks_attributes(program, a) {
                         return Scanned {
@@ -221,21 +213,21 @@ pub fn scan_attributes(
     found: &mut [u16],
 ) -> usize
     ensures { λ r. ⌜
-        (r ≡ count + length (attributeScan (now (sheet .entry)) (now (program .entry)) (now (nodes .entry)) ranges (now (name .entry)) key child «of_type» html (attributesOf (now (input .entry)) (now (outlines .entry))) from budget (testLimit (now (sheet .entry)))))
-        × (now (found .exit) ≡ written (now (found .entry)) count (attributeScan (now (sheet .entry)) (now (program .entry)) (now (nodes .entry)) ranges (now (name .entry)) key child «of_type» html (attributesOf (now (input .entry)) (now (outlines .entry))) from budget (testLimit (now (sheet .entry)))))
+        (r ≡ count + length (attributeScan (now (sheet .entry)) (now (program .entry)) (now (nodes .entry)) ranges (now (name .entry)) key child «of_type» html (attributesOf (now (input .entry)) (now (outlines .entry))) from budget (length (now (sheet .entry)))))
+        × (now (found .exit) ≡ written (now (found .entry)) count (attributeScan (now (sheet .entry)) (now (program .entry)) (now (nodes .entry)) ranges (now (name .entry)) key child «of_type» html (attributesOf (now (input .entry)) (now (outlines .entry))) from budget (length (now (sheet .entry)))))
         ⌝ }
 {
     let mut c = from;
     let mut left = budget as usize;
-    let mut tests = sheet.len() / 4;
+    let mut bytes = sheet.len();
     let mut all = count as usize;
     loop {
-        match next_live(program, nodes, ranges, key, c, left, tests) {
+        match next_live(sheet, program, nodes, ranges, key, c, left, bytes) {
             Live::At(d, more, rest) => {
                 let a = d.at as u16;
                 c = d.next();
                 left = more;
-                tests = rest;
+                bytes = rest;
                 if tag_tests_pass(sheet, program, a, name, child, of_type) {
                     if attributes_pass(sheet, program, a, input, outlines, html) {
                         put16(found, all, a);

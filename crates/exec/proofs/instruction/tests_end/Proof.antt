@@ -11,14 +11,14 @@ use Rattle.exec.proofs.instruction.tests_end.Lts as lts
 use Rattle.cells.proofs.numbers.u16_at.Reads as u16-at-reads
 
 abbrev Inv-loop : tie.InvT-loop
-Inv-loop sheet count from left₀ at₀ left at = (at + left * 65537 ≤ from + count * 65537) × (testsEnd sheet count from ≡ testsEnd sheet left at)
+Inv-loop sheet count from left₀ at₀ left at = (at + left * 65537 ≤ from + count * 65537) × ((from ≤ at) × (testsEnd sheet count from ≡ testsEnd sheet left at))
 
 abbrev μ-loop : tie.MeasureT-loop
 μ-loop sheet count from left₀ at₀ left at = left
 
 -- src/instruction.rt:55:5
 loop-holds : tie.Need-loop-holds Inv-loop μ-loop
-loop-holds c = (omega arith, refl)
+loop-holds c = (omega arith, (omega arith, refl))
 
 -- src/instruction.rt:56:14
 add-at : tie.Need-add-at Inv-loop μ-loop
@@ -42,11 +42,11 @@ loop-less c = search needs
 
 -- src/instruction.rt:55:5
 loop-again : tie.Need-loop-again Inv-loop μ-loop
-loop-again c = let l = c .before .before in (omega arith, l .loop .inv .1 ∙ end-more _ _ _ _ (c .u16-at .ensures .0) (omega arith))
+loop-again c = let l = c .before .before in (omega arith, (omega arith, l .loop .inv .1 .1 ∙ end-more _ _ _ _ (c .u16-at .ensures .0) (omega arith)))
 
 -- src/instruction.rt:49:1
 returns : tie.Need-returns Inv-loop μ-loop
-returns c = let l = c .before in (sym (l .loop .inv .1 ∙ end-none _ _ _ (omega arith)), omega arith)
+returns c = let l = c .before in (sym (l .loop .inv .1 .1 ∙ end-none _ _ _ (omega arith)), (omega arith, omega arith))
 
 pub tests-end-spec : {M : Type 1} → statement M
 tests-end-spec =

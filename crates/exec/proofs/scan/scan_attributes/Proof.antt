@@ -4,7 +4,7 @@ use Prim.Native.Nat.{_+_, _-_, _≤_}
 use native.Mathlib.Omega.{arith}
 use lib.ListN.{length}
 use Rattle.rules.specs.Attributes.{attributesOf}
-use Rattle.exec.specs.Scans.{testLimit, live, attributeScan}
+use Rattle.exec.specs.Scans.{live, attributeScan}
 use Rattle.exec.specs.Searching.{fromKeyed}
 use Rattle.exec.proofs.ScanTurns.{At, reached-at, reached-over, Adding, adds-none, adds-one, adds-up, all-over, all-find, tag-refuses, attributes-refuse}
 use borrow.Author.Needs.{needs}
@@ -19,16 +19,16 @@ use Rattle.exec.proofs.instruction.tag_tests_pass.Reads as tag-tests-pa
 use Rattle.exec.proofs.scan.next_live.Reads as next-live-reads
 
 abbrev Inv-loop : tie.InvT-loop
-Inv-loop sheet program nodes ranges name key child of-type input outlines html budget count found₀ c₀ left₀ tests₀ all₀ found c left tests all = (all + left ≤ count + budget) × ((length found ≡ length found₀) × Adding count found₀ (attributeScan sheet program nodes ranges name key child of-type html (attributesOf input outlines) c₀ budget (testLimit sheet)) found all (attributeScan sheet program nodes ranges name key child of-type html (attributesOf input outlines) c left tests))
+Inv-loop sheet program nodes ranges name key child of-type input outlines html budget count found₀ c₀ left₀ bytes₀ all₀ found c left bytes all = (all + left ≤ count + budget) × ((length found ≡ length found₀) × Adding count found₀ (attributeScan sheet program nodes ranges name key child of-type html (attributesOf input outlines) c₀ budget (length sheet)) found all (attributeScan sheet program nodes ranges name key child of-type html (attributesOf input outlines) c left bytes))
 
 abbrev μ-loop : tie.MeasureT-loop
-μ-loop sheet program nodes ranges name key child of-type input outlines html budget count found₀ c₀ left₀ tests₀ all₀ found c left tests all = left
+μ-loop sheet program nodes ranges name key child of-type input outlines html budget count found₀ c₀ left₀ bytes₀ all₀ found c left bytes all = left
 
-reached : (c : tie.After-d Inv-loop μ-loop) → let l = c .before .before .before in let s = l .before .before .before .before .before .before .before .before .args in At (s .program .now) (s .nodes .now) (s .ranges) (s .key) (l .loop .c) (l .loop .left) (l .loop .tests) (c .d .given .0 .0) (c .d .given .0 .1 .0) (c .d .given .0 .1 .1 .0)
-reached c = reached-at _ _ _ _ _ _ _ _ _ _ _ (c .before .before .next-live .ensures) (c .d .given .1)
+reached : (c : tie.After-d Inv-loop μ-loop) → let l = c .before .before .before in let s = l .before .before .before .before .before .before .before .before .args in At (s .sheet .now) (s .program .now) (s .nodes .now) (s .ranges) (s .key) (l .loop .c) (l .loop .left) (l .loop .bytes) (c .d .given .0 .0) (c .d .given .0 .1 .0) (c .d .given .0 .1 .1 .0)
+reached c = reached-at _ _ _ _ _ _ _ _ _ _ _ _ (c .before .before .next-live .ensures) (c .d .given .1)
 
-over : (c : tie.After-enum-told Inv-loop μ-loop) → let l = c .before .before .before in let s = l .before .before .before .before .before .before .before .before .args in fromKeyed (s .program .now) (s .key) (live (s .program .now) (s .nodes .now) (s .ranges) (s .key) (l .loop .c) (l .loop .left) (l .loop .tests)) ≡ []
-over c = reached-over _ _ _ _ _ _ _ _ (c .before .before .next-live .ensures) (c .enum-told .given .1)
+over : (c : tie.After-enum-told Inv-loop μ-loop) → let l = c .before .before .before in let s = l .before .before .before .before .before .before .before .before .args in fromKeyed (s .program .now) (s .key) (live (s .sheet .now) (s .program .now) (s .nodes .now) (s .ranges) (s .key) (l .loop .c) (l .loop .left) (l .loop .bytes)) ≡ []
+over c = reached-over _ _ _ _ _ _ _ _ _ (c .before .before .next-live .ensures) (c .enum-told .given .1)
 
 -- src/scan.rt:182:5
 loop-holds : tie.Need-loop-holds Inv-loop μ-loop

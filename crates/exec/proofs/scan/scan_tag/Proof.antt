@@ -3,7 +3,7 @@ use mathlib.Core.List.{[]}
 use Prim.Native.Nat.{_+_, _-_, _≤_}
 use native.Mathlib.Omega.{arith}
 use lib.ListN.{length}
-use Rattle.exec.specs.Scans.{testLimit, live, tagScan}
+use Rattle.exec.specs.Scans.{live, tagScan}
 use Rattle.exec.specs.Searching.{fromKeyed}
 use Rattle.exec.proofs.ScanTurns.{At, reached-at, reached-over, Going, goes-on, goes-found, goes-out, goes-stuck, tag-over, tag-fails, tag-stops, tag-finds}
 use borrow.Author.Needs.{needs}
@@ -18,16 +18,16 @@ use Rattle.exec.proofs.instruction.tag_tests_pass.Reads as tag-tests-pa
 use Rattle.exec.proofs.scan.next_live.Reads as next-live-reads
 
 abbrev Inv-loop : tie.InvT-loop
-Inv-loop sheet program nodes ranges name key child of-type budget found₀ c₀ left₀ tests₀ count₀ found c left tests count = (count + left ≤ budget) × ((length found ≡ length found₀) × Going found₀ (tagScan sheet program nodes ranges name key child of-type c₀ budget (testLimit sheet)) found count (tagScan sheet program nodes ranges name key child of-type c left tests))
+Inv-loop sheet program nodes ranges name key child of-type budget found₀ c₀ left₀ bytes₀ count₀ found c left bytes count = (count + left ≤ budget) × ((length found ≡ length found₀) × Going found₀ (tagScan sheet program nodes ranges name key child of-type c₀ budget (length sheet)) found count (tagScan sheet program nodes ranges name key child of-type c left bytes))
 
 abbrev μ-loop : tie.MeasureT-loop
-μ-loop sheet program nodes ranges name key child of-type budget found₀ c₀ left₀ tests₀ count₀ found c left tests count = left
+μ-loop sheet program nodes ranges name key child of-type budget found₀ c₀ left₀ bytes₀ count₀ found c left bytes count = left
 
-reached : (c : tie.After-d Inv-loop μ-loop) → let l = c .before .before .before in let s = l .before .before .before .before .before .before .args in At (s .program .now) (s .nodes .now) (s .ranges) (s .key) (l .loop .c) (l .loop .left) (l .loop .tests) (c .d .given .0 .0) (c .d .given .0 .1 .0) (c .d .given .0 .1 .1 .0)
-reached c = reached-at _ _ _ _ _ _ _ _ _ _ _ (c .before .before .next-live .ensures) (c .d .given .1)
+reached : (c : tie.After-d Inv-loop μ-loop) → let l = c .before .before .before in let s = l .before .before .before .before .before .before .args in At (s .sheet .now) (s .program .now) (s .nodes .now) (s .ranges) (s .key) (l .loop .c) (l .loop .left) (l .loop .bytes) (c .d .given .0 .0) (c .d .given .0 .1 .0) (c .d .given .0 .1 .1 .0)
+reached c = reached-at _ _ _ _ _ _ _ _ _ _ _ _ (c .before .before .next-live .ensures) (c .d .given .1)
 
-over : (c : tie.After-enum-told Inv-loop μ-loop) → let l = c .before .before .before in let s = l .before .before .before .before .before .before .args in fromKeyed (s .program .now) (s .key) (live (s .program .now) (s .nodes .now) (s .ranges) (s .key) (l .loop .c) (l .loop .left) (l .loop .tests)) ≡ []
-over c = reached-over _ _ _ _ _ _ _ _ (c .before .before .next-live .ensures) (c .enum-told .given .1)
+over : (c : tie.After-enum-told Inv-loop μ-loop) → let l = c .before .before .before in let s = l .before .before .before .before .before .before .args in fromKeyed (s .program .now) (s .key) (live (s .sheet .now) (s .program .now) (s .nodes .now) (s .ranges) (s .key) (l .loop .c) (l .loop .left) (l .loop .bytes)) ≡ []
+over c = reached-over _ _ _ _ _ _ _ _ _ (c .before .before .next-live .ensures) (c .enum-told .given .1)
 
 -- src/scan.rt:122:5
 loop-holds : tie.Need-loop-holds Inv-loop μ-loop
