@@ -5,9 +5,9 @@ ghost use Rattle.rules.specs.Attributes.{attributesOf};
 ghost use Rattle.node_tests.specs.Tests.{attributeTestHolds, readAttributeTest};
 
 pub struct AttributeMatcher<'i, 'o> {
-    pub input: &'i [u8],
-    pub outlines: &'o [u32],
-    pub html: bool,
+    input: &'i [u8],
+    outlines: &'o [u32],
+    html: bool,
 }
 
 impl<'i, 'o> AttributeMatcher<'i, 'o> {

@@ -1,4 +1,3 @@
-use native.Mathlib.Omega.{arith}
 use Rattle.cells.proofs.NumberLaws.{part-none, part-past, part-rest}
 use borrow.Author.Needs.{needs}
 use Rattle.cells.proofs.part_of.Statement.{statement}

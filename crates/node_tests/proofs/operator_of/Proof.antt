@@ -1,6 +1,5 @@
 use borrow.Author.Tests.{eq-eqb, ne-eqb}
 use Rattle.node_tests.specs.Tests.{operatorOf}
-use borrow.Author.Needs.{needs}
 use Rattle.node_tests.proofs.operator_of.Statement.{statement}
 use Rattle.node_tests.proofs.operator_of.Tie as tie
 

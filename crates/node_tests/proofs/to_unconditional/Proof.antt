@@ -1,6 +1,5 @@
 use borrow.Author.Tests.{eq-eqb, ne-eqb}
 use Rattle.node_tests.specs.Tests.{ignoresCase}
-use borrow.Author.Needs.{needs}
 use Rattle.node_tests.proofs.to_unconditional.Statement.{statement}
 use Rattle.node_tests.proofs.to_unconditional.Tie as tie
 

@@ -1,9 +1,8 @@
-use lib.Bits.{bitOr}
-use mathlib.Core.Path.{_≡_, refl, sym, ap, _∙_}
+use mathlib.Core.Path.{_≡_, refl, sym, _∙_}
 use mathlib.Core.List.{_++_}
 use Prim.Native.Nat.{_-_, _≤_}
 use native.Mathlib.Omega.{arith}
-use lib.ListN.{length, take, drop, getD, length-set}
+use lib.ListN.{length, take, drop, length-set}
 use Rattle.cells.specs.Ids.{union}
 use Rattle.cells.proofs.IdSteps.{union-step, union-done, union-all}
 use borrow.Author.Needs.{needs}
@@ -23,10 +22,12 @@ returns : tie.Need-returns Inv-loop μ-loop
 returns c = sym (c .before .before .loop .inv .1 .1 ∙ union-done _ _ _ (c .if1 .taken) (omega arith))
 
 loop-less : tie.Need-loop-less Inv-loop μ-loop
-loop-less c = let l = c .before .before .before .before in omega (arith, length-set (l .loop .words) (l .loop .i) (bitOr (getD (l .loop .words) (l .loop .i) 0) (getD (l .before .args .more .now) (l .loop .i) 0)))
+loop-less c = simp length-set (omega arith)
 
 loop-again : tie.Need-loop-again Inv-loop μ-loop
-loop-again c = let l = c .before .before .before .before in (length-set (l .loop .words) (l .loop .i) _ ∙ l .loop .inv .0, (omega (arith, length-set (l .loop .words) (l .loop .i) (bitOr (getD (l .loop .words) (l .loop .i) 0) (getD (l .before .args .more .now) (l .loop .i) 0))), l .loop .inv .1 .1 ∙ union-step _ _ _ (c .before .before .before .loop-test .taken) (c .before .before .if1 .left)))
+loop-again c =
+    let l = c .before .before .before .before in
+    (simp length-set (l .loop .inv .0), (simp length-set (omega arith), l .loop .inv .1 .1 ∙ union-step _ _ _ (c .before .before .before .loop-test .taken) (c .before .before .if1 .left)))
 
 returns-2 : tie.Need-returns-2 Inv-loop μ-loop
 returns-2 c = sym (c .before .loop .inv .1 .1 ∙ union-all _ _ _ (c .loop-test .left))

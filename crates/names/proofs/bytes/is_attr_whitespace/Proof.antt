@@ -1,5 +1,4 @@
 use borrow.Author.Tests.{eq-eqb, ne-eqb}
-use borrow.Author.Needs.{needs}
 use Rattle.names.proofs.bytes.is_attr_whitespace.Statement.{statement}
 use Rattle.names.proofs.bytes.is_attr_whitespace.Tie as tie
 

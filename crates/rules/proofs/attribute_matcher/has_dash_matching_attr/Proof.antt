@@ -1,4 +1,4 @@
-use mathlib.Core.Path.{_≡_, refl, sym, ap, _∙_}
+use mathlib.Core.Path.{sym, _∙_}
 use Rattle.rules.proofs.Turns.{dash-equal, dash-short, dash-other, dash-begins}
 use borrow.Author.Needs.{needs}
 use Rattle.rules.proofs.attribute_matcher.has_dash_matching_attr.Statement.{statement}

@@ -1,6 +1,5 @@
 use borrow.Author.Tests.{le-leb, lt-leb}
 use Rattle.rules.specs.Attributes.{liesWithin}
-use borrow.Author.Needs.{needs}
 use Rattle.rules.proofs.attribute_matcher.lies_within.Statement.{statement}
 use Rattle.rules.proofs.attribute_matcher.lies_within.Tie as tie
 

@@ -1,4 +1,4 @@
-use mathlib.Core.Path.{_≡_, refl, sym, ap, _∙_}
+use mathlib.Core.Path.{_≡_, sym, _∙_}
 use mathlib.Core.Logic.{⊎-elim}
 use Prim.Native.Nat.{_-_, _≤_}
 use native.Mathlib.Omega.{arith}
@@ -19,10 +19,6 @@ abbrev μ-loop : tie.MeasureT-loop
 
 loop-holds : tie.Need-loop-holds Inv-loop μ-loop
 loop-holds c = (omega arith, (omega arith, includes-start _ _ _))
-
-shared-slice-read-is-attr-whitespace :
-    tie.Need-shared-slice-read-is-attr-whitespace Inv-loop μ-loop
-shared-slice-read-is-attr-whitespace c = search needs
 
 returns : tie.Need-returns Inv-loop μ-loop
 returns c =
@@ -50,7 +46,7 @@ matches-splitted-by-whitespace-spec =
     Inv-loop
     μ-loop
     loop-holds
-    shared-slice-read-is-attr-whitespace
+    (λ c. search needs)
     (λ c κs. search needs)
     (λ c. search needs)
     (λ c. search needs)
