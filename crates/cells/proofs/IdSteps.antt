@@ -1,5 +1,5 @@
 -- One turn of the loops over words of ids.
-use mathlib.Core.Path.{_≡_, refl, sym, ap, _∙_, subst}
+use mathlib.Core.Path.{_≡_, refl, sym, ap, _∙_}
 use mathlib.Core.Bool.{Bool, true, false, cond}
 use mathlib.Core.List.{List, [], _∷_, _++_, append-nil, append-assoc}
 use Prim.Native.Nat.{ℕ, zero, suc, _+_, _-_, _*_, _/_, _%_, _^_, _<_, _≤_}
@@ -50,7 +50,7 @@ module _ (words : List ℕ) where
     digit : (b : ℕ) → b < 2 → (id : ℕ) (ids : List ℕ) → length (cond (eqb b 1) (id ∷ ids) ids) ≡ b + length ids
     digit zero h id ids = sym (zero-add (length ids))
     digit (suc zero) h id ids = omega arith
-    digit (suc (suc b)) h id ids = absurd (let q : ⊥ = omega arith in q)
+    digit (suc (suc b)) h id ids = absurd (omega arith)
 
     count-from : (j n : ℕ) → j + n ≡ 64 → getD words k 0 < 2 ^ 64 → length (idsFrom words (k * 64 + j) n) ≡ ones (getD words k 0 / 2 ^ j)
     unfolding idsFrom ones onesIn
@@ -82,7 +82,7 @@ record Lowest (w t k : ℕ) : Type 0 where
   pub zeros : (j : ℕ) → j < t → bit w j ≡ 0
 
 lowest-odd : (w k : ℕ) → w % 2 ≡ 1 → Lowest w 0 (suc k)
-lowest-odd w k e = record { inside = omega arith; set-bit = rw (div-one w) e; zeros = λ j h. absurd (let q : ⊥ = omega arith in q) }
+lowest-odd w k e = record { inside = omega arith; set-bit = rw (div-one w) e; zeros = λ j h. absurd (omega arith) }
 
 lowest-even : (w t k : ℕ) → w % 2 ≡ 0 → Lowest (w / 2) t k → Lowest w (suc t) (suc k)
 lowest-even w t k e l = record { inside = omega (arith, l .inside); set-bit = bit-half w t ∙ l .set-bit; zeros = zeros-at }
@@ -93,13 +93,13 @@ lowest-even w t k e l = record { inside = omega (arith, l .inside); set-bit = bi
 
 lowest : (k w : ℕ) → 0 < w → w < 2 ^ k → Lowest w (trailingZeros k w) k
 unfolding trailingZeros
-lowest zero w p h = absurd (let q : ⊥ = omega arith in q)
+lowest zero w p h = absurd (omega arith)
 lowest (suc k) w p h = go (w % 2) refl (λ q. lowest k (w / 2) q (half-lt k w h))
   where
     go : (b : ℕ) → w % 2 ≡ b → (0 < w / 2 → Lowest (w / 2) (trailingZeros k (w / 2)) k) → Lowest w (under b (trailingZeros k (w / 2))) (suc k)
     go zero e ih = lowest-even w _ k e (ih (omega arith))
     go (suc zero) e ih = lowest-odd w k e
-    go (suc (suc b)) e ih = absurd (let q : ⊥ = omega arith in q)
+    go (suc (suc b)) e ih = absurd (omega arith)
 
 -- ---- the next member
 
@@ -119,7 +119,7 @@ module _ (words : List ℕ) (k passed : ℕ) where
       go false q =
           let z : getD words k 0 / 2 ^ (passed + t) ≡ 0 = div-eq-of-lt (lt-of-lt-of-le h (pow-mono (ltb-false _ _ q))) in
           let y : getD words k 0 / 2 ^ (passed + t) % 2 ≡ 1 = bit-on t ∙ e in
-          absurd (let q : ⊥ = omega (arith, z, y) in q)
+          absurd (omega (arith, z, y))
 
   module _ (fits : getD words k 0 < 2 ^ 64) (n : ℕ) (inside : (k + 1) * 64 ≤ n) where
     small : getD words k 0 / 2 ^ passed < 2 ^ 64

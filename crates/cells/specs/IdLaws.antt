@@ -1,15 +1,15 @@
 -- What the sets of ids mean: a listed id is a member, each once and rising, and all members are listed; unions are of members.
 use mathlib.Core.Path.{_≡_, refl, sym, ap, _∙_, subst}
-use mathlib.Core.Logic.{_↔_, _⊎_, inl, inr, ⊎-elim}
-use mathlib.Core.Bool.{Bool, true, false, cond, _||_}
-use mathlib.Core.List.{List, [], _∷_, _++_, List·Memᴰ, List·Memᴰ·head, List·Memᴰ·tail, List·Memᴰ·not-nil, List·Memᴰ·cases-cons}
-use Prim.Native.Nat.{ℕ, zero, suc, _+_, _-_, _*_, _/_, _%_, _^_, _<_, _≤_, max}
+use mathlib.Core.Logic.{_↔_, ⊎-elim}
+use mathlib.Core.Bool.{Bool, true, false, cond, _||_, or-false}
+use mathlib.Core.List.{List, [], _∷_, List·Memᴰ, List·Memᴰ·head, List·Memᴰ·tail, List·Memᴰ·not-nil, List·Memᴰ·cases-cons}
+use Prim.Native.Nat.{ℕ, zero, suc, _+_, _*_, _/_, _%_, _^_, _<_, _≤_, max}
 use native.Mathlib.Omega.{arith}
 use native.Mathlib.Nat.{zero-div, div-one, div-eq-of-lt, mul-mod-left, mul-div-mul-left, pow-suc, pow-succ'}
-use borrow.Author.Tests.{eq-eqb, ne-eqb, eqb-true, eqb-false, ltb-true, ltb-false}
+use borrow.Author.Tests.{eq-eqb, ne-eqb, eqb-true, eqb-false}
 use lib.Arith.{digits-mod}
 use lib.Bits.{bitOr, or-shr, or-step}
-use lib.Dec.{T, eqb, ltb, eqb·suc-suc, lit<}
+use lib.Dec.{T, eqb, eqb·suc-suc}
 use lib.ListN.{length, getD, set, List·getD-eq-default}
 use lib.Pow.{pow-lt}
 use lib.Seq.{getD-set-other, getD-set-same}
@@ -17,10 +17,6 @@ use Rattle.cells.specs.Ids.{bit, hasId, idsFrom, idsOf, withId, union}
 
 no-bit : (i : ℕ) → eqb (bit 0 i) 1 ≡ false
 no-bit i = rw (zero-div (2 ^ i))
-
-is-true : (b : Bool) → T b → b ≡ true
-is-true true t = refl
-is-true false t = absurd t
 
 holds : {b : Bool} → b ≡ true → T b
 holds e = subst T (sym e) tt
@@ -59,7 +55,7 @@ module _ (words : List ℕ) where
 
   member-listed : (id n i : ℕ) → id ≤ i → i < id + n → T (hasId words i) → List·Memᴰ i (idsFrom words id n)
   unfolding idsFrom
-  member-listed id zero i h g t = absurd (let q : ⊥ = omega arith in q)
+  member-listed id zero i h g t = absurd (omega arith)
   member-listed id (suc n) i h g t = go (hasId words id) refl (eqb i id) refl (λ k. member-listed (id + 1) n i k (omega arith) t)
     where
       go : (b : Bool) → hasId words id ≡ b → (c : Bool) → eqb i id ≡ c → (id + 1 ≤ i → List·Memᴰ i (idsFrom words (id + 1) n)) → List·Memᴰ i (cond b (id ∷ idsFrom words (id + 1) n) (idsFrom words (id + 1) n))
@@ -101,21 +97,17 @@ one-or zero zero h g = refl
 one-or zero (suc zero) h g = refl
 one-or (suc zero) zero h g = refl
 one-or (suc zero) (suc zero) h g = refl
-one-or (suc (suc x)) y h g = absurd (let q : ⊥ = omega arith in q)
-one-or zero (suc (suc y)) h g = absurd (let q : ⊥ = omega arith in q)
-one-or (suc zero) (suc (suc y)) h g = absurd (let q : ⊥ = omega arith in q)
+one-or (suc (suc x)) y h g = absurd (omega arith)
+one-or zero (suc (suc y)) h g = absurd (omega arith)
+one-or (suc zero) (suc (suc y)) h g = absurd (omega arith)
 
 or-has : (a b i : ℕ) → eqb (bit (bitOr a b) i) 1 ≡ (eqb (bit a i) 1 || eqb (bit b i) 1)
 or-has a b i = rw (or-bit a b i) (one-or (bit a i) (bit b i) (omega arith) (omega arith))
 
-or-none : (b : Bool) → b ≡ (b || false)
-or-none true = refl
-or-none false = refl
-
 union-word : (words more : List ℕ) (k i : ℕ) → k < length words → eqb (bit (getD (union words more) k 0) i) 1 ≡ (eqb (bit (getD words k 0) i) 1 || eqb (bit (getD more k 0) i) 1)
 unfolding union
-union-word [] more k i h = absurd (let q : ⊥ = omega arith in q)
-union-word (w ∷ ws) [] k i h = rw (no-bit i) (or-none (eqb (bit (getD (w ∷ ws) k 0) i) 1))
+union-word [] more k i h = absurd (omega arith)
+union-word (w ∷ ws) [] k i h = rw (no-bit i) (sym (or-false (eqb (bit (getD (w ∷ ws) k 0) i) 1)))
 union-word (w ∷ ws) (m ∷ more) zero i h = or-has w m i
 union-word (w ∷ ws) (m ∷ more) (suc k) i h = union-word ws more k i (omega arith)
 
@@ -149,4 +141,4 @@ with-law words id i h = go (eqb (i / 64) (id / 64)) refl
         rw (d, getD-set-same words (id / 64) (bitOr w (2 ^ (id % 64))) 0 h, or-has w (2 ^ (id % 64)) (i % 64), power-bit (id % 64) (i % 64), same-bit (eqb (id % 64) (i % 64)) refl d)
     go false e =
         let n = eqb-false (i / 64) (id / 64) e in
-        rw (getD-set-other words (id / 64) (i / 64) (bitOr w (2 ^ (id % 64))) 0 n, ne-eqb id i (λ z. n (ap (λ (k : ℕ). k / 64) (sym z)))) (or-none (eqb (bit (getD words (i / 64) 0) (i % 64)) 1))
+        rw (getD-set-other words (id / 64) (i / 64) (bitOr w (2 ^ (id % 64))) 0 n, ne-eqb id i (λ z. n (ap (λ (k : ℕ). k / 64) (sym z)))) (sym (or-false (eqb (bit (getD words (i / 64) 0) (i % 64)) 1)))

@@ -1,10 +1,8 @@
 -- Cells of a store, read and written one after the other, as loops over total reads and writes do it.
-use mathlib.Core.Path.{_≡_, refl, sym, _∙_, ap}
+use mathlib.Core.Path.{_≡_, refl, _∙_, ap}
 use mathlib.Core.List.{List, [], _∷_, _++_}
-use Prim.Native.Nat.{ℕ, zero, suc, _+_, _-_, _*_, _<_, _≤_}
+use Prim.Native.Nat.{ℕ, zero, suc, _+_, _<_, _≤_}
 use native.Mathlib.Omega.{arith}
-use native.Mathlib.Nat.{mul-le-mul-right, suc-mul}
-use native.Mathlib.Numerals.{add-one}
 use lib.ListN.{length, getD, set, length-set}
 use lib.Seq.{getD-set-other, getD-set-same}
 
@@ -45,7 +43,7 @@ get-above xs a (v ∷ vs) j h = get-above (set xs a v) (a + 1) vs j (omega arith
 -- a cell that is written
 pub get-in : (xs : List ℕ) (a : ℕ) (vs : List ℕ) (j : ℕ) → j < length vs → a + length vs ≤ length xs → getD (written xs a vs) (a + j) 0 ≡ getD vs j 0
 unfolding written
-get-in xs a [] j h f = absurd (let q : ⊥ = omega arith in q)
+get-in xs a [] j h f = absurd (omega arith)
 get-in xs a (v ∷ vs) zero h f =
     let e : a + 0 ≡ a = omega arith in
     rw e (get-below (set xs a v) (a + 1) vs a (omega arith) ∙ getD-set-same xs a v 0 (omega arith))
@@ -91,7 +89,3 @@ pub cells-same : (xs ys : List ℕ) (a n : ℕ) → ((i : ℕ) → a ≤ i → i
 unfolding cellsFrom
 cells-same xs ys a zero h = refl
 cells-same xs ys a (suc n) h = rw (h a (omega arith) (omega arith), cells-same xs ys (a + 1) n (λ i p q. h i (omega arith) (omega arith)))
-
--- slots of one size: one that stands before another ends before it
-pub slot-below : (k d w : ℕ) → k < d → k * w + w ≤ d * w
-slot-below k d w h = let m = mul-le-mul-right w h in let e = suc-mul k w in omega arith

@@ -1,14 +1,14 @@
 -- What the rules on names mean (01, section 3; E8).
 use mathlib.Core.Path.{_≡_, refl, sym, ap, _∙_, subst}
 use mathlib.Core.Logic.{_↔_, _⊎_, inl, inr, ⊎-elim}
-use mathlib.Core.Bool.{Bool, true, false, cond, _&&_, _||_}
+use mathlib.Core.Bool.{Bool, true, false, cond, _&&_}
 use mathlib.Core.List.{List, [], _∷_, map, List·Memᴰ, List·Memᴰ·head, List·Memᴰ·tail, List·Memᴰ·not-nil, List·Memᴰ·cases-cons}
 use Prim.Native.Nat.{ℕ, _+_, _%_, _^_, _<_}
 use native.Mathlib.Omega.{arith}
 use borrow.Author.Tests.{leb-true, lt-leb}
 use lib.Dec.{T, leb}
-use Rattle.names.specs.Bytes.{lowerOf, fold, equalBytes, sameBytes}
-use Rattle.names.specs.BytesLaws.{and-both, and-left, and-right, or-cases, or-left, or-right, fold-false, equal→eq, equal-refl, same-law}
+use Rattle.names.specs.Bytes.{lowerOf, fold, sameBytes}
+use Rattle.names.specs.BytesLaws.{and-both, and-left, and-right, or-cases, or-left, or-right, fold-false, same-law}
 use Rattle.names.specs.Names.{sameName, voidNames, esiNames, amongNames, voidName, hashOf, nameKey}
 
 -- Names are the same exactly when they are equal after lower-casing.

@@ -1,10 +1,9 @@
 -- What the functions on whole tests answer is what the definitions of the tests say.
-use mathlib.Core.Path.{_≡_, refl, sym, ap, _∙_}
-use mathlib.Core.Bool.{Bool, true, false, not, cond}
+use mathlib.Core.Path.{_≡_, sym, ap, _∙_}
+use mathlib.Core.Bool.{Bool, true, not}
 use mathlib.Core.List.{List}
 use Prim.Native.Nat.{ℕ, _+_, _<_}
 use borrow.Author.Tests.{eq-eqb, ne-eqb}
-use lib.Dec.{eqb}
 use lib.IntN.{ℤ, pos}
 use lib.ListN.{length, getD}
 use lib.Signed.{mag}
@@ -14,7 +13,7 @@ use mir.ValLaws.{toZ-ofZ}
 use Rattle.cells.specs.Numbers.{part, i32At}
 use Rattle.names.specs.Bytes.{fold}
 use Rattle.rules.specs.Nth.{nthHolds}
-use Rattle.rules.specs.Attributes.{Attribute, attributesOf, lookup}
+use Rattle.rules.specs.Attributes.{Attribute, lookup}
 use Rattle.rules.specs.Operators.{valueHolds}
 use Rattle.node_tests.specs.Tests.{tagKind, tagHolds, tagTestHolds, readTagTest, ignoresCase, operatorOf, comparison, attributeKind, attributeHolds, attributeTestHolds, readAttributeTest, opposite}
 use Rattle.rules.specs.declared.attribute_matcher.Operator.{Operator}

@@ -1,6 +1,6 @@
 -- The marked examples P1 to P9 of document 01, section 6, as one list of expected results.
 use mathlib.Core.Path.{_≡_, refl}
-use mathlib.Core.Bool.{Bool, true, false, cond, _&&_, _||_}
+use mathlib.Core.Bool.{Bool, true, false}
 use mathlib.Core.List.{List, [], _∷_}
 use lib.IntN.{pos, negsuc}
 use Rattle.rules.specs.Nth.{nthHolds}

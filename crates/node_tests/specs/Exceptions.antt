@@ -1,8 +1,8 @@
 -- When the tests of a sheet hold, in W3C's words (`Standard`), with the exceptions of document 01, section 5, and no others.
 use mathlib.Core.Path.{_≡_, refl, sym, ap, _∙_, subst}
 use mathlib.Core.Logic.{_↔_, _⊎_, inl, inr, ⊎-elim}
-use mathlib.Core.Bool.{Bool, true, false, not, cond}
-use mathlib.Core.List.{List, [], List·Memᴰ}
+use mathlib.Core.Bool.{Bool, true, false}
+use mathlib.Core.List.{List, []}
 use mathlib.Core.Option.{Option, none, some}
 use Prim.Native.Nat.{ℕ}
 use lib.Dec.{T}
@@ -12,7 +12,7 @@ use Rattle.names.specs.BytesLaws.{fold-false, equal→eq, equal-refl}
 use Rattle.rules.specs.Nth.{Nth}
 use Rattle.rules.specs.NthLaws.{nth-law}
 use Rattle.names.specs.NameLaws.{fold-twice, name-law}
-use Rattle.rules.specs.Attributes.{Attribute, lookup, isThere}
+use Rattle.rules.specs.Attributes.{Attribute, lookup}
 use Rattle.rules.specs.AttributeLaws.{First, lookup-law, there-law}
 use Rattle.rules.specs.Operators.{operatorHolds, valueHolds}
 use Rattle.rules.specs.OperatorLaws.{equal-law, includes-law}

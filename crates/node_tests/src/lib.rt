@@ -1,4 +1,5 @@
 //! Whole tests of a sheet, read from its bytes: kind, negation, body (01, section 1). Any bytes are answered.
+use attribute_matcher::AttributeMatcher;
 use cells::at8;
 use cells::get8;
 use cells::numbers::i32_at;
@@ -11,6 +12,8 @@ use rules::nth::nth;
 ghost use mathlib.Core.Path.{_≡_};
 ghost use Rattle.rules.specs.Attributes.{attributesOf};
 ghost use Rattle.node_tests.specs.Tests.{tagKind, tagHolds, tagTestHolds, readTagTest, ignoresCase, operatorOf, comparison, attributeKind, attributeHolds, attributeTestHolds, readAttributeTest};
+
+pub mod attribute_matcher;
 
 // A tag test by its kind and body.
 pub fn tag_kind(kind: u8, body: &[u8], name: &[u8], child: u32, of_type: u32) -> bool
@@ -124,7 +127,7 @@ pub fn attribute_kind(kind: u8, body: &[u8], input: &[u8], outlines: &[u32], htm
 }
 
 // An attribute test for a tag's input and outlines, in namespace HTML or another.
-pub fn attribute_test(test: &[u8], input: &[u8], outlines: &[u32], html: bool) -> bool
+pub fn attribute_test_holds(input: &[u8], outlines: &[u32], html: bool, test: &[u8]) -> bool
     ensures { λ r. ⌜ r ≡ attributeTestHolds html (attributesOf (now (input .entry)) (now (outlines .entry))) (readAttributeTest (now (test .entry))) ⌝ }
 {
     let holds = attribute_kind(
@@ -138,4 +141,11 @@ pub fn attribute_test(test: &[u8], input: &[u8], outlines: &[u32], html: bool) -
         return holds;
     }
     !holds
+}
+
+// The same with plain parameters for the machine: the tag's attributes become one value, which is asked.
+pub fn attribute_test(test: &[u8], input: &[u8], outlines: &[u32], html: bool) -> bool
+    ensures { λ r. ⌜ r ≡ attributeTestHolds html (attributesOf (now (input .entry)) (now (outlines .entry))) (readAttributeTest (now (test .entry))) ⌝ }
+{
+    AttributeMatcher::new(input, outlines, html).matches(test)
 }

@@ -1,9 +1,9 @@
 -- One turn of the loops over outlines, which take four numbers at a time.
 use mathlib.Core.Path.{_≡_, refl, sym, ap, _∙_}
-use mathlib.Core.Bool.{Bool, true, false, cond, _&&_}
-use mathlib.Core.List.{List, [], _∷_, map}
+use mathlib.Core.Bool.{Bool, true, false, cond}
+use mathlib.Core.List.{List, [], _∷_}
 use mathlib.Core.Option.{Option, none, some}
-use Prim.Native.Nat.{ℕ, suc, _+_, _-_, _^_, _<_, _≤_}
+use Prim.Native.Nat.{ℕ, _+_, _-_, _^_, _<_, _≤_}
 use native.Mathlib.Numerals.{add-one}
 use native.Mathlib.Omega.{arith}
 use lib.ListN.{length, getD, drop, length-drop, drop-of-length-le}
@@ -25,11 +25,11 @@ four l i h =
 
 not-formed : (size : ℕ) (m : List ℕ) → 0 < length m → length m < 4 → wellFormed size m ≡ false
 unfolding wellFormed
-not-formed size [] h g = absurd (let q : ⊥ = omega arith in q)
+not-formed size [] h g = absurd (omega arith)
 not-formed size (a ∷ []) h g = refl
 not-formed size (a ∷ (b ∷ [])) h g = refl
 not-formed size (a ∷ (b ∷ (c ∷ []))) h g = refl
-not-formed size (a ∷ (b ∷ (c ∷ (d ∷ m)))) h g = absurd (let q : ⊥ = omega arith in q)
+not-formed size (a ∷ (b ∷ (c ∷ (d ∷ m)))) h g = absurd (omega arith)
 
 not-found : (input wanted m : List ℕ) → length m < 4 → findIn input wanted m ≡ Found.Nothing
 unfolding findIn
@@ -37,7 +37,7 @@ not-found input wanted [] h = refl
 not-found input wanted (a ∷ []) h = refl
 not-found input wanted (a ∷ (b ∷ [])) h = refl
 not-found input wanted (a ∷ (b ∷ (c ∷ []))) h = refl
-not-found input wanted (a ∷ (b ∷ (c ∷ (d ∷ m)))) h = absurd (let q : ⊥ = omega arith in q)
+not-found input wanted (a ∷ (b ∷ (c ∷ (d ∷ m)))) h = absurd (omega arith)
 
 module _ (size : ℕ) (l : List ℕ) (i : ℕ) where
   pub formed-short : i < length l → length l - i < 4 → wellFormed size (drop i l) ≡ false

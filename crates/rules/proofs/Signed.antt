@@ -1,23 +1,20 @@
 -- What the signed operations of `nth` come to in ℤ: i32 widened to i64, a difference, a quotient's fit, tests of bits and of sign.
 use mathlib.Core.Path.{_≡_, refl, sym, ap, _∙_, subst}
 use mathlib.Core.Bool.{Bool, true, false}
-use Prim.Native.Nat.{ℕ, zero, suc, _+_, _-_, _*_, _/_, _%_, _^_, _<_, _≤_}
+use Prim.Native.Nat.{ℕ, zero, suc, _-_, _/_, _%_, _^_, _<_, _≤_}
 use native.Mathlib.Nat.{div-le-self, lt-of-le-of-lt, mod-le, zero-mod}
 use native.Mathlib.Omega.{arith}
-use borrow.Author.Tests.{lt-ltb, le-ltb, eq-eqb, ne-eqb, ltb-true, ltb-false}
+use borrow.Author.Tests.{lt-ltb, eq-eqb, ne-eqb, ltb-true, ltb-false}
 use lib.IntN.{ℤ, pos, negsuc, negℤ, natAbs, subℕ, _-ℤ_}
 use lib.Dec.{T, eqb, ltb, leb, leb·zero, leb·suc-zero, eqb·suc-zero}
 use lib.Signed.{mag, quotZ, remZ, leZ, ltZ}
 use mir.Syntax.{w32, w64}
-use mir.Val.{SFits, Fits, toZ, ofZ, sel}
+use mir.Val.{SFits, Fits, toZ, ofZ}
 use mir.ValLaws.{toZ-ofZ}
 use Rattle.rules.specs.Nth.{nthHolds, multipleOf}
 
 pub wide : (z : ℤ) → SFits w32 z → SFits w64 z
 wide z f = omega arith
-
-pub read : (z : ℤ) → SFits w32 z → toZ w32 (ofZ w32 z) ≡ z
-read z f = toZ-ofZ w32 z f
 
 pub fits-index : (i : ℕ) → Fits w32 i → toZ w64 i ≡ pos i
 fits-index i f = let h : ltb i (2 ^ 63) ≡ true = lt-ltb i (2 ^ 63) (omega arith) in rw h

@@ -1,14 +1,13 @@
 -- What each early answer, and each turn of a loop, comes to in the definitions of `specs/Operators.antt`.
 use mathlib.Core.Path.{_≡_, refl, sym, ap, _∙_}
-use mathlib.Core.Bool.{Bool, true, false, not, cond, _&&_, _||_, and-false, and-true, or-false}
+use mathlib.Core.Bool.{Bool, true, false, and-false, and-true, or-false}
 use mathlib.Core.List.{List, [], _∷_, _++_}
 use Prim.Native.Nat.{ℕ, suc, _+_, _-_, _<_, _≤_}
 use native.Mathlib.Nat.{sub-self, sub-zero, le-refl}
 use native.Mathlib.Numerals.{add-one}
 use native.Mathlib.Omega.{arith}
 use borrow.Author.Tests.{eq-eqb, ne-eqb}
-use lib.Dec.{eqb}
-use lib.ListN.{length, getD, take, drop, drop-of-length-le, List·getD-eq-default, length-take, length-drop}
+use lib.ListN.{length, getD, take, drop, drop-of-length-le, List·getD-eq-default, length-drop}
 use lib.Seq.{drop-cons, take-all, take-nil, take-suc, getD-drop}
 use Rattle.cells.specs.Numbers.{part}
 use Rattle.names.specs.Bytes.{sameBytes, spaceByte}

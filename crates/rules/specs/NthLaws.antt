@@ -1,8 +1,7 @@
 -- `nthHolds` decides `Nth`: proved for all integers, so at the ends of i32 too.
-use mathlib.Core.Path.{_≡_, refl, sym, ap, _∙_, subst}
+use mathlib.Core.Path.{_≡_, sym, ap, _∙_, subst}
 use mathlib.Core.Logic.{_↔_}
-use mathlib.Core.Bool.{Bool, true, false}
-use Prim.Native.Nat.{ℕ, zero, suc, _+_, _*_, _/_, _%_}
+use Prim.Native.Nat.{ℕ, zero, suc, _*_, _/_, _%_}
 use native.Mathlib.Nat.{div-add-mod, mul-mod-right, mul-zero, zero-mul}
 use native.Mathlib.Omega.{arith}
 use lib.IntN.{ℤ, pos, negsuc, negℤ, _+ℤ_, _-ℤ_, _*ℤ_, +ℤ-negℤ-cancel, -ℤ-+ℤ-cancel}

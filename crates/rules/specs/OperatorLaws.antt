@@ -1,25 +1,21 @@
 -- The computed operators are W3C's (`Standard`), with the exceptions E1 and E2 and no others: each law holds for every case rule, value and operand.
 use mathlib.Core.Path.{_≡_, refl, sym, ap, _∙_, subst}
 use mathlib.Core.Logic.{_↔_, _⊎_, inl, inr, ⊎-elim}
-use mathlib.Core.Bool.{Bool, true, false, not, cond, _&&_, _||_}
-use mathlib.Core.List.{List, [], _∷_, _++_, map, append-nil, List·Memᴰ, List·Memᴰ·head, List·Memᴰ·tail, List·Memᴰ·not-nil, List·Memᴰ·cases-cons}
+use mathlib.Core.Bool.{Bool, true, false, not, cond, _&&_}
+use mathlib.Core.List.{List, [], _∷_, _++_, map, map-append, append-nil, List·Memᴰ, List·Memᴰ·head, List·Memᴰ·tail, List·Memᴰ·not-nil, List·Memᴰ·cases-cons}
 use Prim.Native.Nat.{ℕ, zero, suc, _+_, _-_, _<_, _≤_}
 use native.Mathlib.Omega.{arith}
 use borrow.Author.Tests.{eq-eqb, ne-eqb, leb-true}
-use lib.Dec.{T, eqb, leb, eqb→eq, eqb-refl}
-use lib.ListN.{length, getD, take, drop, length-map, length-append, length-drop, take-append-drop, List·getD-map}
+use lib.Dec.{T, eqb, leb, eqb→eq}
+use lib.ListN.{length, getD, take, drop, length-map, length-append, take-append-drop, List·getD-map}
 use lib.Seq.{drop-cons, take-at, drop-at, getD-at}
 use Rattle.names.specs.Bytes.{sameBytes, foldByte, fold, spaceByte}
 use Rattle.names.specs.BytesLaws.{and-both, and-left, and-right, or-cases, or-left, or-right, holds, same-law}
-use Rattle.rules.specs.Operators.{emptyBytes, equalHolds, beginsWith, prefixHolds, suffixHolds, dashHolds, containsBytes, substringHolds, parts, split, somePart, includesHolds}
+use Rattle.rules.specs.Operators.{emptyBytes, equalHolds, beginsWith, prefixHolds, suffixHolds, dashHolds, containsBytes, substringHolds, split, somePart, includesHolds}
 use Rattle.rules.specs.SplitLaws.{part-law}
 use Rattle.rules.specs.Standard.{Equal, Prefix, Suffix, Substring, Dash, Clear, Part, Includes}
 
 -- ---- lists
-
-map-append : (g : ℕ → ℕ) (s t : List ℕ) → map g (s ++ t) ≡ map g s ++ map g t
-map-append g [] t = refl
-map-append g (x ∷ s) t = ap (λ (l : List ℕ). g x ∷ l) (map-append g s t)
 
 map-take : (g : ℕ → ℕ) (n : ℕ) (l : List ℕ) → map g (take n l) ≡ take n (map g l)
 map-take g zero l = refl

@@ -6,7 +6,7 @@ use names::bytes::same;
 ghost use mathlib.Core.Path.{_≡_};
 ghost use Rattle.names.specs.Bytes.{fold};
 ghost use Rattle.rules.specs.Attributes.{liesWithin, wellFormed, goodOutlines, findIn, lookup, attributesOf, isThere};
-ghost use Rattle.rules.specs.Operators.{equalHolds, beginsWith, prefixHolds, suffixHolds, dashHolds, substringHolds, includesHolds, operatorHolds, valueHolds};
+ghost use Rattle.rules.specs.Operators.{beginsWith, prefixHolds, suffixHolds, dashHolds, substringHolds, includesHolds, operatorHolds, valueHolds};
 
 // Where the value of an attribute stands in the input.
 pub enum Found {

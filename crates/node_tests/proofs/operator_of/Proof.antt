@@ -1,37 +1,28 @@
 use borrow.Author.Tests.{eq-eqb, ne-eqb}
 use Rattle.node_tests.specs.Tests.{operatorOf}
-use borrow.Author.Needs.{needs}
 use Rattle.node_tests.proofs.operator_of.Statement.{statement}
 use Rattle.node_tests.proofs.operator_of.Tie as tie
-use Rattle.node_tests.proofs.operator_of.Reads as reads
-use Rattle.node_tests.proofs.operator_of.Lts as lts
 
--- src/tests.rt:68:9
 returns : tie.Need-returns
 unfolding operatorOf
 returns c = simp (eq-eqb _ _ (c .if1 .taken))
 
--- src/tests.rt:71:9
 returns-2 : tie.Need-returns-2
 unfolding operatorOf
 returns-2 c = simp (ne-eqb _ _ (c .before .if1 .left), eq-eqb _ _ (c .if2 .taken))
 
--- src/tests.rt:74:9
 returns-3 : tie.Need-returns-3
 unfolding operatorOf
 returns-3 c = simp (ne-eqb _ _ (c .before .before .if1 .left), ne-eqb _ _ (c .before .if2 .left), eq-eqb _ _ (c .if3 .taken))
 
--- src/tests.rt:77:9
 returns-4 : tie.Need-returns-4
 unfolding operatorOf
 returns-4 c = simp (ne-eqb _ _ (c .before .before .before .if1 .left), ne-eqb _ _ (c .before .before .if2 .left), ne-eqb _ _ (c .before .if3 .left), eq-eqb _ _ (c .if4 .taken))
 
--- src/tests.rt:80:9
 returns-5 : tie.Need-returns-5
 unfolding operatorOf
 returns-5 c = simp (ne-eqb _ _ (c .before .before .before .before .if1 .left), ne-eqb _ _ (c .before .before .before .if2 .left), ne-eqb _ _ (c .before .before .if3 .left), ne-eqb _ _ (c .before .if4 .left), eq-eqb _ _ (c .if5 .taken))
 
--- src/tests.rt:64:1
 returns-6 : tie.Need-returns-6
 unfolding operatorOf
 returns-6 c = simp (ne-eqb _ _ (c .before .before .before .before .if1 .left), ne-eqb _ _ (c .before .before .before .if2 .left), ne-eqb _ _ (c .before .before .if3 .left), ne-eqb _ _ (c .before .if4 .left), ne-eqb _ _ (c .if5 .left))

@@ -1,22 +1,16 @@
 use borrow.Author.Tests.{eq-eqb, ne-eqb}
 use Rattle.node_tests.specs.Tests.{ignoresCase}
-use borrow.Author.Needs.{needs}
 use Rattle.node_tests.proofs.to_unconditional.Statement.{statement}
 use Rattle.node_tests.proofs.to_unconditional.Tie as tie
-use Rattle.node_tests.proofs.to_unconditional.Reads as reads
-use Rattle.node_tests.proofs.to_unconditional.Lts as lts
 
--- src/tests.rt:56:9
 returns : tie.Need-returns
 unfolding ignoresCase
 returns c = simp (eq-eqb _ _ (c .if1 .taken))
 
--- src/tests.rt:59:9
 returns-2 : tie.Need-returns-2
 unfolding ignoresCase
 returns-2 c = simp (ne-eqb _ _ (c .before .if1 .left), eq-eqb _ _ (c .if2 .taken))
 
--- src/tests.rt:52:1
 returns-3 : tie.Need-returns-3
 unfolding ignoresCase
 returns-3 c = simp (ne-eqb _ _ (c .before .if1 .left), ne-eqb _ _ (c .if2 .left))

@@ -1,6 +1,6 @@
-use mathlib.Core.Path.{_≡_, refl, sym, ap, _∙_}
+use mathlib.Core.Path.{_≡_, refl, _∙_}
 use native.Mathlib.Omega.{arith}
-use Prim.Native.Nat.{ℕ, _+_, _-_, _*_, _^_, _≤_, _<_}
+use Prim.Native.Nat.{_-_, _*_, _^_, _≤_, _<_}
 use lib.Count.{ones, ones-le}
 use lib.ListN.{length, getD}
 use Rattle.cells.specs.Ids.{idsFrom, idsOf}
@@ -8,8 +8,6 @@ use Rattle.cells.proofs.IdSteps.{counted, count-past}
 use borrow.Author.Needs.{needs}
 use Rattle.cells.proofs.ids.count_ids.Statement.{statement}
 use Rattle.cells.proofs.ids.count_ids.Tie as tie
-use Rattle.cells.proofs.ids.count_ids.Reads as reads
-use Rattle.cells.proofs.ids.count_ids.Lts as lts
 
 abbrev Inv-loop : tie.InvT-loop
 Inv-loop words count₀ i₀ count i = (i ≤ 1024) × ((count ≤ i * 64) × (count ≡ length (idsFrom words 0 (i * 64))))
@@ -23,45 +21,23 @@ fits c = c .shared-slice-known .given (c .before .before .before .loop .i) .fits
 few : (c : tie.After-shared-slice-known Inv-loop μ-loop) → ones (getD (c .before .before .before .before .args .words .now) (c .before .before .before .loop .i) 0) ≤ 64
 few c = ones-le 64 _ (fits c)
 
--- src/ids.rt:68:5
 loop-holds : tie.Need-loop-holds Inv-loop μ-loop
 unfolding idsFrom
 loop-holds c = (omega arith, (omega arith, refl))
 
--- src/ids.rt:70:13
 returns : tie.Need-returns Inv-loop μ-loop
 unfolding idsOf
 returns c = let l = c .before .before in l .loop .inv .1 .1 ∙ count-past _ _ 65536 (c .if1 .taken) (omega arith)
 
--- src/ids.rt:72:34
-mul-count : tie.Need-mul-count Inv-loop μ-loop
-mul-count c = search needs
-
--- src/ids.rt:72:34
-shared-slice-read-count : tie.Need-shared-slice-read-count Inv-loop μ-loop
-shared-slice-read-count c = search needs
-
--- src/ids.rt:72:18
 cast-count : tie.Need-cast-count Inv-loop μ-loop
 cast-count c = omega (arith, few c)
 
--- src/ids.rt:72:9
 add-count : tie.Need-add-count Inv-loop μ-loop
 add-count c = omega (arith, few c)
 
--- src/ids.rt:73:9
-add-i : tie.Need-add-i Inv-loop μ-loop
-add-i c = search needs
-
--- src/ids.rt:68:5
-loop-less : tie.Need-loop-less Inv-loop μ-loop
-loop-less c = search needs
-
--- src/ids.rt:68:5
 loop-again : tie.Need-loop-again Inv-loop μ-loop
 loop-again c = (omega arith, (omega (arith, few c), counted _ _ _ (fits c) (c .before .before .before .loop .inv .1 .1)))
 
--- src/ids.rt:63:1
 returns-2 : tie.Need-returns-2 Inv-loop μ-loop
 unfolding idsOf
 returns-2 c = let e : c .before .loop .i ≡ 1024 = omega arith in c .before .loop .inv .1 .1 ∙ rw e
@@ -74,11 +50,11 @@ count-ids-spec =
     μ-loop
     loop-holds
     returns
-    mul-count
-    shared-slice-read-count
+    (λ c. search needs)
+    (λ c. search needs)
     cast-count
     add-count
-    add-i
-    loop-less
+    (λ c. search needs)
+    (λ c. search needs)
     loop-again
     returns-2)

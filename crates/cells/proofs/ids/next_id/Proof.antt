@@ -1,15 +1,13 @@
-use mathlib.Core.Path.{_≡_, refl, sym, ap, _∙_}
+use mathlib.Core.Path.{_≡_, sym, ap, _∙_}
 use native.Mathlib.Omega.{arith}
 use Prim.Native.Nat.{ℕ, _+_, _-_, _*_, _/_, _%_, _^_, _≤_, _<_}
 use lib.Count.{trailingZeros}
-use lib.ListN.{length, getD}
+use lib.ListN.{getD}
 use Rattle.cells.specs.Ids.{idsFrom, firstOf}
 use Rattle.cells.proofs.IdSteps.{next-found, next-small, next-later, next-none, next-past}
 use borrow.Author.Needs.{needs}
 use Rattle.cells.proofs.ids.next_id.Statement.{statement}
 use Rattle.cells.proofs.ids.next_id.Tie as tie
-use Rattle.cells.proofs.ids.next_id.Reads as reads
-use Rattle.cells.proofs.ids.next_id.Lts as lts
 
 abbrev Inv-loop : tie.InvT-loop
 Inv-loop words from i₀ passed₀ i passed = (passed < 64) × (idsFrom words from (65536 - from) ≡ idsFrom words (i * 64 + passed) (65536 - (i * 64 + passed)))
@@ -32,59 +30,24 @@ found c =
     let l = c .before .before .before .before in
     next-small (l .before .args .words .now) (l .loop .i) (l .loop .passed) (fits (c .before)) 65536 (omega arith) (omega arith)
 
--- src/ids.rt:49:5
 loop-holds : tie.Need-loop-holds Inv-loop μ-loop
 loop-holds c = let e : c .args .from / 64 * 64 + c .args .from % 64 ≡ c .args .from = omega arith in (omega arith, rw e)
 
--- src/ids.rt:51:13
 returns : tie.Need-returns Inv-loop μ-loop
 returns c = let l = c .before .before in next-past _ _ _ (past (l .loop .passed) (c .if1 .taken)) ∙ ap firstOf (sym (l .loop .inv .1))
 
--- src/ids.rt:53:20
-mul-word : tie.Need-mul-word Inv-loop μ-loop
-mul-word c = search needs
-
--- src/ids.rt:53:20
-shared-slice-read-word : tie.Need-shared-slice-read-word Inv-loop μ-loop
-shared-slice-read-word c = search needs
-
--- src/ids.rt:53:20
-shr-word : tie.Need-shr-word Inv-loop μ-loop
-shr-word c = search needs
-
--- src/ids.rt:55:29
-mul-t11 : tie.Need-mul-t11 Inv-loop μ-loop
-mul-t11 c = search needs
-
--- src/ids.rt:55:29
-add-t12 : tie.Need-add-t12 Inv-loop μ-loop
-add-t12 c = search needs
-
--- src/ids.rt:55:47
 cast-t14 : tie.Need-cast-t14 Inv-loop μ-loop
 cast-t14 c = omega (arith, found c)
 
--- src/ids.rt:55:29
 add-t15 : tie.Need-add-t15 Inv-loop μ-loop
 add-t15 c = omega (arith, found c)
 
--- src/ids.rt:55:13
 returns-2 : tie.Need-returns-2 Inv-loop μ-loop
 returns-2 c = let l = c .before .before .before .before in next-found (l .before .args .words .now) (l .loop .i) (l .loop .passed) (fits (c .before)) 65536 (omega arith) (omega arith) ∙ ap firstOf (sym (l .loop .inv .1))
 
--- src/ids.rt:58:9
-add-i : tie.Need-add-i Inv-loop μ-loop
-add-i c = search needs
-
--- src/ids.rt:49:5
-loop-less : tie.Need-loop-less Inv-loop μ-loop
-loop-less c = search needs
-
--- src/ids.rt:49:5
 loop-again : tie.Need-loop-again Inv-loop μ-loop
 loop-again c = let l = c .before .before .before .before in (omega arith, l .loop .inv .1 ∙ next-later (l .before .args .words .now) (l .loop .i) (l .loop .passed) (fits (c .before)) 65536 (omega arith) (l .loop .inv .0) (omega arith))
 
--- src/ids.rt:44:1
 returns-3 : tie.Need-returns-3 Inv-loop μ-loop
 returns-3 c = let l = c .before in next-none _ _ 65536 (last (l .loop .passed) (c .loop-test .left)) ∙ ap firstOf (sym (l .loop .inv .1))
 
@@ -96,15 +59,15 @@ next-id-spec =
     μ-loop
     loop-holds
     returns
-    mul-word
-    shared-slice-read-word
-    shr-word
-    mul-t11
-    add-t12
+    (λ c. search needs)
+    (λ c. search needs)
+    (λ c. search needs)
+    (λ c. search needs)
+    (λ c. search needs)
     cast-t14
     add-t15
     returns-2
-    add-i
-    loop-less
+    (λ c. search needs)
+    (λ c. search needs)
     loop-again
     returns-3)

@@ -2,24 +2,15 @@ use borrow.Author.Tests.{le-leb, lt-leb}
 use borrow.Author.Needs.{needs}
 use Rattle.names.proofs.bytes.lower.Statement.{statement}
 use Rattle.names.proofs.bytes.lower.Tie as tie
-use Rattle.names.proofs.bytes.lower.Reads as reads
-use Rattle.names.proofs.bytes.lower.Lts as lts
 
--- src/bytes.rt:10:9
 returns : tie.Need-returns
 returns c = simp (lt-leb _ _ (c .if1 .taken))
 
--- src/bytes.rt:13:16
-add-result : tie.Need-add-result
-add-result c = search needs
-
--- src/bytes.rt:13:9
 returns-2 : tie.Need-returns-2
 returns-2 c = simp (le-leb _ _ (c .before .if1 .left), le-leb _ _ (c .if2 .taken))
 
--- src/bytes.rt:6:1
 returns-3 : tie.Need-returns-3
 returns-3 c = simp (le-leb _ _ (c .before .if1 .left), lt-leb _ _ (c .if2 .left))
 
 pub lower-spec : {M : Type 1} → statement M
-lower-spec = tie.close (tie.spec returns add-result returns-2 returns-3)
+lower-spec = tie.close (tie.spec returns (λ c. search needs) returns-2 returns-3)

@@ -3,28 +3,18 @@ use Rattle.rules.specs.Attributes.{goodOutlines}
 use borrow.Author.Needs.{needs}
 use Rattle.rules.proofs.attribute_matcher.good_outlines.Statement.{statement}
 use Rattle.rules.proofs.attribute_matcher.good_outlines.Tie as tie
-use Rattle.rules.proofs.attribute_matcher.good_outlines.Reads as reads
-use Rattle.rules.proofs.attribute_matcher.good_outlines.Lts as lts
-use Rattle.rules.proofs.attribute_matcher.well_formed.Reads as well-formed-reads
 
--- src/attribute_matcher.rt:57:9
 returns : tie.Need-returns
 unfolding goodOutlines
 returns c = simp (lt-leb _ _ (c .if1 .taken))
 
--- src/attribute_matcher.rt:60:9
 returns-2 : tie.Need-returns-2
 unfolding goodOutlines
 returns-2 c = simp (le-leb _ _ (c .before .if1 .left), lt-leb _ _ (c .if2 .taken))
 
--- src/attribute_matcher.rt:62:5
-well-formed-requires : tie.Need-well-formed-requires
-well-formed-requires c κs = search needs
-
--- src/attribute_matcher.rt:53:1
 returns-3 : tie.Need-returns-3
 unfolding goodOutlines
 returns-3 c = simp (le-leb _ _ (c .before .before .if1 .left), le-leb _ _ (c .before .if2 .left)) (c .well-formed .ensures)
 
 pub good-outlines-spec : {M : Type 1} → statement M
-good-outlines-spec = tie.close (tie.spec returns returns-2 well-formed-requires returns-3)
+good-outlines-spec = tie.close (tie.spec returns returns-2 (λ c κs. search needs) returns-3)

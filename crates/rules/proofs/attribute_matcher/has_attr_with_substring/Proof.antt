@@ -1,4 +1,4 @@
-use mathlib.Core.Path.{_≡_, refl, sym, ap, _∙_}
+use mathlib.Core.Path.{_≡_, sym, _∙_}
 use Prim.Native.Nat.{_-_, _≤_}
 use native.Mathlib.Omega.{arith}
 use lib.ListN.{length, drop}
@@ -7,9 +7,6 @@ use Rattle.rules.proofs.Turns.{substring-none, substring-some, contains
 use borrow.Author.Needs.{needs}
 use Rattle.rules.proofs.attribute_matcher.has_attr_with_substring.Statement.{statement}
 use Rattle.rules.proofs.attribute_matcher.has_attr_with_substring.Tie as tie
-use Rattle.rules.proofs.attribute_matcher.has_attr_with_substring.Reads as reads
-use Rattle.rules.proofs.attribute_matcher.has_attr_with_substring.Lts as lts
-use Rattle.rules.proofs.attribute_matcher.begins.Reads as begins-reads
 
 abbrev Inv-loop : tie.InvT-loop
 Inv-loop value operand f i₀ i = (i ≤ length value) × ((length operand ≡ 0 → ⊥) × (substringHolds f value operand ≡ containsBytes f (drop i value) operand))
@@ -17,51 +14,22 @@ Inv-loop value operand f i₀ i = (i ≤ length value) × ((length operand ≡ 0
 abbrev μ-loop : tie.MeasureT-loop
 μ-loop value operand f i₀ i = length value - i
 
--- src/attribute_matcher.rt:145:9
 returns : tie.Need-returns Inv-loop μ-loop
 returns c = sym (substring-none _ _ _ (c .if1 .taken))
 
--- src/attribute_matcher.rt:148:5
 loop-holds : tie.Need-loop-holds Inv-loop μ-loop
 loop-holds c = (omega arith, (c .if1 .left, substring-some _ _ _ (c .if1 .left)))
 
--- src/attribute_matcher.rt:149:19
-sub-begins : tie.Need-sub-begins Inv-loop μ-loop
-sub-begins c = search needs
-
--- src/attribute_matcher.rt:149:19
-part-begins-start : tie.Need-part-begins-start Inv-loop μ-loop
-part-begins-start c = search needs
-
--- src/attribute_matcher.rt:149:19
-part-begins-end : tie.Need-part-begins-end Inv-loop μ-loop
-part-begins-end c = search needs
-
--- src/attribute_matcher.rt:149:12
-begins-requires : tie.Need-begins-requires Inv-loop μ-loop
-begins-requires c κs = search needs
-
--- src/attribute_matcher.rt:150:13
 returns-2 : tie.Need-returns-2 Inv-loop μ-loop
 returns-2 c =
     let l = c .before .before .before .before in
     sym (l .loop .inv .1 .1 ∙ contains-yes _ _ _ (l .loop .i) (omega arith) (sym (rw rest-is at (c .before .begins .ensures)) ∙ c .if2 .taken))
 
--- src/attribute_matcher.rt:152:9
-add-i : tie.Need-add-i Inv-loop μ-loop
-add-i c = search needs
-
--- src/attribute_matcher.rt:148:5
-loop-less : tie.Need-loop-less Inv-loop μ-loop
-loop-less c = search needs
-
--- src/attribute_matcher.rt:148:5
 loop-again : tie.Need-loop-again Inv-loop μ-loop
 loop-again c =
     let l = c .before .before .before .before in
     (omega arith, (l .loop .inv .1 .0, l .loop .inv .1 .1 ∙ contains-more _ _ _ (l .loop .i) (omega arith) (sym (rw rest-is at (c .before .begins .ensures)) ∙ c .if2 .left)))
 
--- src/attribute_matcher.rt:141:1
 returns-3 : tie.Need-returns-3 Inv-loop μ-loop
 returns-3 c = let l = c .before in sym (l .loop .inv .1 .1 ∙ contains-end _ _ _ (l .loop .i) (omega arith) (l .loop .inv .1 .0))
 
@@ -73,12 +41,12 @@ has-attr-with-substring-spec =
     μ-loop
     returns
     loop-holds
-    sub-begins
-    part-begins-start
-    part-begins-end
-    begins-requires
+    (λ c. search needs)
+    (λ c. search needs)
+    (λ c. search needs)
+    (λ c κs. search needs)
     returns-2
-    add-i
-    loop-less
+    (λ c. search needs)
+    (λ c. search needs)
     loop-again
     returns-3)

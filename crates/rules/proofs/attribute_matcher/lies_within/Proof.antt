@@ -1,17 +1,12 @@
 use borrow.Author.Tests.{le-leb, lt-leb}
 use Rattle.rules.specs.Attributes.{liesWithin}
-use borrow.Author.Needs.{needs}
 use Rattle.rules.proofs.attribute_matcher.lies_within.Statement.{statement}
 use Rattle.rules.proofs.attribute_matcher.lies_within.Tie as tie
-use Rattle.rules.proofs.attribute_matcher.lies_within.Reads as reads
-use Rattle.rules.proofs.attribute_matcher.lies_within.Lts as lts
 
--- src/attribute_matcher.rt:31:9
 returns : tie.Need-returns
 unfolding liesWithin
 returns c = simp (lt-leb _ _ (c .if1 .taken))
 
--- src/attribute_matcher.rt:27:1
 returns-2 : tie.Need-returns-2
 unfolding liesWithin
 returns-2 c = simp (le-leb _ _ (c .if1 .left))

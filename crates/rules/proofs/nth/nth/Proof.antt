@@ -2,45 +2,31 @@ use Rattle.rules.proofs.Signed.{wide, diff-abs, abs-fits, nonzero, s-is
 use borrow.Author.Needs.{needs}
 use Rattle.rules.proofs.nth.nth.Statement.{statement}
 use Rattle.rules.proofs.nth.nth.Tie as tie
-use Rattle.rules.proofs.nth.nth.Reads as reads
-use Rattle.rules.proofs.nth.nth.Lts as lts
 
--- src/nth.rt:10:13
 cast-s : tie.Need-cast-s
-cast-s c = rw (s-is (c .args .step) (c .args .offset) (c .args .index) (c .fits .step) (c .fits .offset) (c .fits .index)) (wide _ (c .fits .step))
+cast-s c = rw (s-is _ _ _ (c .fits .step) (c .fits .offset) (c .fits .index)) (wide _ (c .fits .step))
 
--- src/nth.rt:11:13
-cast-d : tie.Need-cast-d
-cast-d c = search needs
-
--- src/nth.rt:11:28
 cast-d-2 : tie.Need-cast-d-2
-cast-d-2 c = rw (s-is (c .args .offset) (c .args .step) (c .args .index) (c .fits .offset) (c .fits .step) (c .fits .index)) (wide _ (c .fits .offset))
+cast-d-2 c = rw (s-is _ _ _ (c .fits .offset) (c .fits .step) (c .fits .index)) (wide _ (c .fits .offset))
 
--- src/nth.rt:11:13
 sub-d : tie.Need-sub-d
-sub-d c = rw (d-is (c .args .step) (c .args .offset) (c .args .index) (c .fits .step) (c .fits .offset) (c .fits .index)) (abs-fits _ (diff-abs _ _ (c .fits .index) (c .fits .offset)))
+sub-d c = rw (d-is _ _ _ (c .fits .step) (c .fits .offset) (c .fits .index)) (abs-fits _ (diff-abs _ _ (c .fits .index) (c .fits .offset)))
 
--- src/nth.rt:13:9
 returns : tie.Need-returns
-returns c = let b = c .before in answer-zero (b .args .step) (b .args .offset) (b .args .index) (b .fits .step) (b .fits .offset) (b .fits .index) (c .if1 .taken)
+returns c = let b = c .before in answer-zero _ _ _ (b .fits .step) (b .fits .offset) (b .fits .index) (c .if1 .taken)
 
--- src/nth.rt:15:8
 rem-if2 : tie.Need-rem-if2
-rem-if2 c = let b = c .before in (nonzero _ (c .if1 .left), rem-fits (b .args .step) (b .args .offset) (b .args .index) (b .fits .step) (b .fits .offset) (b .fits .index))
+rem-if2 c = let b = c .before in (nonzero _ (c .if1 .left), rem-fits _ _ _ (b .fits .step) (b .fits .offset) (b .fits .index))
 
--- src/nth.rt:16:9
 returns-2 : tie.Need-returns-2
-returns-2 c = let b = c .before .before in answer-part (b .args .step) (b .args .offset) (b .args .index) (b .fits .step) (b .fits .offset) (b .fits .index) (c .before .if1 .left) (c .if2 .taken)
+returns-2 c = let b = c .before .before in answer-part _ _ _ (b .fits .step) (b .fits .offset) (b .fits .index) (c .before .if1 .left) (c .if2 .taken)
 
--- src/nth.rt:19:9
 returns-3 : tie.Need-returns-3
-returns-3 c = let b = c .before .before .before in answer-falls (b .args .step) (b .args .offset) (b .args .index) (b .fits .step) (b .fits .offset) (b .fits .index) (c .before .if2 .left) (c .if3 .taken)
+returns-3 c = let b = c .before .before .before in answer-falls _ _ _ (b .fits .step) (b .fits .offset) (b .fits .index) (c .before .if2 .left) (c .if3 .taken)
 
--- src/nth.rt:7:1
 returns-4 : tie.Need-returns-4
-returns-4 c = let b = c .before .before .before in answer-rises (b .args .step) (b .args .offset) (b .args .index) (b .fits .step) (b .fits .offset) (b .fits .index) (c .before .before .if1 .left) (c .before .if2 .left) (c .if3 .left)
+returns-4 c = let b = c .before .before .before in answer-rises _ _ _ (b .fits .step) (b .fits .offset) (b .fits .index) (c .before .before .if1 .left) (c .before .if2 .left) (c .if3 .left)
 
 pub nth-spec : {M : Type 1} → statement M
 nth-spec =
-    tie.close (tie.spec cast-s cast-d cast-d-2 sub-d returns rem-if2 returns-2 returns-3 returns-4)
+    tie.close (tie.spec cast-s (λ c. search needs) cast-d-2 sub-d returns rem-if2 returns-2 returns-3 returns-4)
