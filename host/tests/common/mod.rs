@@ -220,6 +220,10 @@ impl Host {
             let mut stores = self.stores.cut(&self.lent);
             let inputs = self.inputs.cut(&self.lent);
             let told = stores.call(&inputs, &self.lent, call);
+            assert!(
+                inputs == self.inputs.cut(&self.lent),
+                "an input changed: {call:?}"
+            );
             self.stores.put_back(&stores);
             told
         } else {

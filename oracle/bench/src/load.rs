@@ -10,16 +10,33 @@ pub struct Kind {
 }
 
 pub const KINDS: [Kind; 4] = [
-    Kind { name: "nested", flat: false, types: false },
-    Kind { name: "nested-types", flat: false, types: true },
-    Kind { name: "flat", flat: true, types: false },
-    Kind { name: "flat-types", flat: true, types: true },
+    Kind {
+        name: "nested",
+        flat: false,
+        types: false,
+    },
+    Kind {
+        name: "nested-types",
+        flat: false,
+        types: true,
+    },
+    Kind {
+        name: "flat",
+        flat: true,
+        types: false,
+    },
+    Kind {
+        name: "flat-types",
+        flat: true,
+        types: true,
+    },
 ];
 
 /// Tags of the second half of the names never wait.
 const NAMES: [&str; 32] = [
-    "div", "a", "img", "li", "input", "section", "button", "form", "link", "script", "nav", "article", "video", "h2", "figure", "iframe",
-    "span", "p", "ul", "td", "tr", "b", "i", "em", "strong", "table", "tbody", "h1", "h3", "footer", "header", "main",
+    "div", "a", "img", "li", "input", "section", "button", "form", "link", "script", "nav",
+    "article", "video", "h2", "figure", "iframe", "span", "p", "ul", "td", "tr", "b", "i", "em",
+    "strong", "table", "tbody", "h1", "h3", "footer", "header", "main",
 ];
 
 const NODES: usize = 300;
@@ -54,7 +71,10 @@ impl Dice {
 }
 
 const fn plainly<K>(kind: K) -> Test<K> {
-    Test { negated: false, kind }
+    Test {
+        negated: false,
+        kind,
+    }
 }
 
 /// A name, for one in eight nodes a position too; where the name may wait, for one in three nodes an attribute test.
@@ -65,8 +85,15 @@ fn node(dice: &mut Dice, name: usize, kind: &Kind) -> Node {
         ..Node::default()
     };
     if dice.below(8) == 0 {
-        let nth = Nth { step: 2, offset: dice.below(3) as i32 };
-        let test = if kind.types { TagTest::NthOfType(nth) } else { TagTest::NthChild(nth) };
+        let nth = Nth {
+            step: 2,
+            offset: dice.below(3) as i32,
+        };
+        let test = if kind.types {
+            TagTest::NthOfType(nth)
+        } else {
+            TagTest::NthChild(nth)
+        };
         node.tag_tests.push(plainly(test));
     }
     if name < NAMES.len() / 2 && dice.below(3) == 0 {
@@ -107,12 +134,20 @@ fn sheet(dice: &mut Dice, kind: &Kind) -> Sheet {
         let at = dice.below(roots.len());
         let mut under = &mut roots[at];
         while dice.below(2) == 0 && !under.children.is_empty() && !under.descendants.is_empty() {
-            let below = if dice.below(2) == 0 { &mut under.children } else { &mut under.descendants };
+            let below = if dice.below(2) == 0 {
+                &mut under.children
+            } else {
+                &mut under.descendants
+            };
             let at = dice.below(below.len());
             under = &mut below[at];
         }
         let grown = named(dice);
-        if dice.below(2) == 0 { under.children.push(grown) } else { under.descendants.push(grown) }
+        if dice.below(2) == 0 {
+            under.children.push(grown)
+        } else {
+            under.descendants.push(grown)
+        }
         left -= 1;
     }
     waiting(Sheet { roots })
@@ -134,7 +169,12 @@ fn attributes(dice: &mut Dice) -> (Vec<u8>, Vec<usize>) {
     let href = format!("v{}/page", dice.below(12));
     let id = format!("v{}", dice.below(12));
     let last = ["data-x", "title"][dice.below(2)];
-    for (name, value) in [("class", class), ("id", id), ("href", href), (last, "1".into())] {
+    for (name, value) in [
+        ("class", class),
+        ("id", id),
+        ("href", href),
+        (last, "1".into()),
+    ] {
         input.push(b' ');
         let start = input.len();
         input.extend(name.bytes());
@@ -159,7 +199,11 @@ impl Load {
                 // An end tag closes the innermost element, now and then more.
                 let at = open.len() - 1 - dice.below(open.len().min(2));
                 events.push(Event::End(open[at]));
-                open.truncate(open.iter().rposition(|name| *name == open[at]).unwrap_or(at));
+                open.truncate(
+                    open.iter()
+                        .rposition(|name| *name == open[at])
+                        .unwrap_or(at),
+                );
                 continue;
             }
             let name = dice.below(NAMES.len());
@@ -172,7 +216,12 @@ impl Load {
             }
             starts += 1;
         }
-        Self { sheet, events, starts, attributes }
+        Self {
+            sheet,
+            events,
+            starts,
+            attributes,
+        }
     }
 
     pub fn name(&self, at: usize) -> &'static [u8] {

@@ -7,8 +7,8 @@ use load::{Event, KINDS, Load};
 use plain::{Answer, Machine as _, Outlined, Sheet};
 use selectors_vm::{Machine, Namespace, Outline};
 use std::env;
+use std::fs;
 use std::hint::black_box;
-use std::time::Instant;
 
 /// What a run comes to: equal for both machines where all answers are.
 #[derive(Clone, Copy, Debug, Default, Eq, PartialEq)]
@@ -110,19 +110,28 @@ fn rust(judge: &mut Judge, load: &Load, given: &[Given]) -> Sum {
     sum
 }
 
+/// Nanoseconds that this thread has been on a processor: what other programs take of a shared machine is not in it.
+fn on_processor() -> f64 {
+    let text = fs::read_to_string("/proc/thread-self/schedstat").expect("Linux");
+    text.split(' ')
+        .next()
+        .and_then(|first| first.parse().ok())
+        .expect("a number")
+}
+
 /// Nanoseconds a start tag, and what the run came to. Making the machine is not timed.
 fn time_proved(sheet: &[u8], load: &Load, given: &[Given]) -> (f64, Sum) {
     let mut machine = Machine::new(sheet, false).expect("a good sheet");
-    let clock = Instant::now();
+    let before = on_processor();
     let sum = black_box(proved(black_box(&mut machine), load, given));
-    (clock.elapsed().as_nanos() as f64 / load.starts as f64, sum)
+    ((on_processor() - before) / load.starts as f64, sum)
 }
 
 fn time_rust(sheet: &Sheet, load: &Load, given: &[Given]) -> (f64, Sum) {
     let mut judge = Judge::new(sheet, false);
-    let clock = Instant::now();
+    let before = on_processor();
     let sum = black_box(rust(black_box(&mut judge), load, given));
-    (clock.elapsed().as_nanos() as f64 / load.starts as f64, sum)
+    ((on_processor() - before) / load.starts as f64, sum)
 }
 
 /// The least and the middle of some numbers.
@@ -146,15 +155,32 @@ fn compare(kind: &load::Kind, runs: usize) {
         theirs.push(b);
         ratios.push(a / b);
     }
-    let (a, b, r) = (least_and_median(ours), least_and_median(theirs), least_and_median(ratios));
+    let (a, b, r) = (
+        least_and_median(ours),
+        least_and_median(theirs),
+        least_and_median(ratios),
+    );
     println!(
         "{:<22} {} nodes, {} roots, {} start tags, {} wait: proved {:.0} (median {:.0}) ns a tag, Rust {:.0} ({:.0}), ratio {:.2} ({:.2})",
-        kind.name, load.sheet.node_count(), load.sheet.roots.len(), load.starts, waits, a.0, a.1, b.0, b.1, r.0, r.1
+        kind.name,
+        load.sheet.node_count(),
+        load.sheet.roots.len(),
+        load.starts,
+        waits,
+        a.0,
+        a.1,
+        b.0,
+        b.1,
+        r.0,
+        r.1
     );
 }
 
 fn one(sheet: &str, which: &str, runs: usize) {
-    let kind = KINDS.iter().find(|kind| kind.name == sheet).expect("a kind of sheet");
+    let kind = KINDS
+        .iter()
+        .find(|kind| kind.name == sheet)
+        .expect("a kind of sheet");
     let load = Load::new(kind);
     let given = given(&load);
     for _ in 0..runs {
@@ -171,7 +197,9 @@ fn main() {
     match words[..] {
         ["one", sheet, which, runs] => one(sheet, which, runs.parse().expect("a number")),
         [] => KINDS.iter().for_each(|kind| compare(kind, 15)),
-        [runs] => KINDS.iter().for_each(|kind| compare(kind, runs.parse().expect("a number"))),
+        [runs] => KINDS
+            .iter()
+            .for_each(|kind| compare(kind, runs.parse().expect("a number"))),
         _ => panic!("bench [RUNS] | bench one SHEET proved|rust RUNS"),
     }
 }
