@@ -4,3 +4,4 @@ pub mod Decode
 pub mod Reading
 pub mod Pushing
 pub mod Counting
+pub mod Moving
