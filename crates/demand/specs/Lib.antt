@@ -1,3 +1,4 @@
+pub mod Statement
 pub mod Words
 pub mod Rows
 pub mod Decode
@@ -5,3 +6,4 @@ pub mod Reading
 pub mod Pushing
 pub mod Counting
 pub mod Moving
+pub mod Scanning

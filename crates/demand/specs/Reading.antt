@@ -22,6 +22,7 @@ use Rattle.meaning.specs.Document.{child, descendant}
 use Rattle.meaning.specs.Elements.{Name, same-name}
 use Rattle.meaning.specs.Spans.{span}
 use Rattle.meaning.specs.Machine.{Counter, Item, Stack, times-of, known, bearing, parents-of, ancestors-of, carried, live-at, pairs-of, nearest, up-to}
+use Rattle.demand.specs.Statement.{wordsFrom}
 use Rattle.demand.specs.Words.{flat-gather}
 use Rattle.demand.specs.Rows.{Compiled, rowsProgram, rootsOf, hungOf}
 use Rattle.demand.specs.Decode.{View, hd, pairName, countAt, pairsAt, view, levelAt, itemsAt, stackAt, stackOf, restOf, Tidy, tidy-pm}
@@ -203,11 +204,6 @@ popped-few s x = go (stack.nearest (s .rows) (s .names) x (hd s 0)) (find-le (s 
     go (suc p) h = rw (ne-eqb (suc p) 0 (λ w. omega arith)) (omega arith)
 
 -- ---- the id words of the popped, in opening order
-
--- The id words of n elements from element k on.
-unfoldable pub wordsFrom : List ℕ → ℕ → ℕ → List (List ℕ)
-wordsFrom ids k zero = []
-wordsFrom ids k (suc n) = cellsFrom ids (k * idWords) idWords ∷ wordsFrom ids (k + 1) n
 
 rev-snoc : {A : Type 0} (xs acc : List A) → reverseAux xs acc ≡ reverse xs ++ acc
 rev-snoc [] acc = refl

@@ -17,12 +17,8 @@ use Rattle.meaning.specs.Match.{Way}
 use Rattle.meaning.specs.Elements.{Tag, html}
 use Rattle.meaning.specs.Spans.{span}
 use Rattle.meaning.specs.Calls.{Program}
+use Rattle.demand.specs.Statement.{Lent}
 use Rattle.demand.specs.Words.{nodeIds, words-rise, words-united}
-
--- What is lent with attributes: the input, and the outlines of names and values in it.
-pub record Lent : Type 0 where
-  pub input : List ℕ
-  pub outlines : List ℕ
 
 module _ (sheet program : List ℕ) where
   abbrev pub rootsOf : List ℕ

@@ -1,0 +1,163 @@
+-- The scans over the live instructions are those of the machine that the stores stand for.
+use mathlib.Core.Path.{_≡_, refl, sym, _∙_, ap, subst, fun-ext}
+use mathlib.Core.Bool.{Bool, true, false, cond, not, _&&_}
+use mathlib.Core.List.{List, [], _∷_, _++_}
+use Prim.Native.Nat.{ℕ, zero, suc, _+_, _-_, _*_, _/_, _%_, _<_, _≤_}
+use native.Mathlib.Omega.{arith}
+use native.Mathlib.Numerals.{add-one}
+use lib.ListN.{length, getD}
+use lib.Dec.{eqb, leb}
+use borrow.Author.Tests.{leb-true}
+use Rattle.rules.specs.Names.{nameKey}
+use Rattle.rules.specs.Attributes.{attributesOf}
+use Rattle.sheet.specs.Parser.{nodeCount, rootCount}
+use Rattle.exec.specs.declared.cursor.Cursor.{Cursor}
+use Rattle.exec.specs.declared.cursor.Ranges.{Ranges}
+use Rattle.exec.specs.Cursors.{cursorOf, firstCursor, rangeAt, leftIn, ride, inRange, rides, later, rest, ats}
+use Rattle.exec.specs.CursorLaws.{Own, own-first}
+use Rattle.exec.specs.Instructions.{tagPasses, asks}
+use Rattle.exec.specs.Scans as scans
+use Rattle.exec.specs.Scans.{Sought, over, stopped, foundToo, seek, tagScan, allPass, attributeScan}
+use Rattle.exec.specs.ScanLaws.{length-ats, forget, seek-scan, tag-scan-all, attribute-scan-all}
+use Rattle.stack.specs.Stores as stack
+use Rattle.stack.specs.Stores.{Stores, rowWord, countLimit, oneMore, timesOf, heldFound, heldName, heldKind}
+use Rattle.stack.specs.Laws.{one-more}
+use Rattle.weighing.specs.Weighing.{esiOn, typesCounted}
+use Rattle.machine.specs.Calls as calls
+use Rattle.machine.specs.Calls.{liveRanges, firstLive, heldCursor, isHtml, childPosition, typePosition, begin, resumed, flagsOf}
+use Rattle.meaning.specs.Lists.{keep, put-if}
+use Rattle.meaning.specs.Elements.{Tag, html}
+use Rattle.meaning.specs.Machine.{Stack, Scan, done, stuck, found-too, visit, scan, times-of, live-at, number, number-of-name, tag-passes, passes, scan-if}
+use Rattle.meaning.specs.Machine as meaning
+use Rattle.demand.specs.Statement.{Lent}
+use Rattle.demand.specs.Rows.{Compiled, rowsProgram}
+use Rattle.demand.specs.Decode.{hd, view, pairsAt, levelAt, stackOf, heldTag, restOf, tidy-km, tidy-pm}
+use Rattle.demand.specs.Reading.{times-top, live-all}
+use Rattle.demand.specs.Counting.{Good}
+use Rattle.demand.specs.Moving.{Header}
+
+-- ---- the numbers of a cursor fit their cells
+abbrev pub Small : Cursor → Type 0
+Small c = (c .slot < 4294967296) × (c .at < 4294967296) × (c .stop < 4294967296)
+
+abbrev AllSmall : List Cursor → Type 0
+AllSmall [] = Unit
+AllSmall (c ∷ cs) = Small c × AllSmall cs
+
+all-cat : (xs ys : List Cursor) → AllSmall xs → AllSmall ys → AllSmall (xs ++ ys)
+all-cat [] ys a b = b
+all-cat (x ∷ xs) ys (a, as′) b = (a, all-cat xs ys as′ b)
+
+all-ride : (stage slot stop at n : ℕ) → slot < 4294967296 → stop < 4294967296 → n ≡ stop - at → AllSmall (ride stage slot stop at n)
+unfolding ride
+all-ride stage slot stop at zero h k e = tt
+all-ride stage slot stop at (suc n) h k e = ((h, omega arith, k), all-ride stage slot stop (at + 1) n h k (omega arith))
+
+all-range : (limit : ℕ) (c : Cursor) → limit ≤ 1024 → c .slot < 4294967296 → AllSmall (inRange limit c)
+unfolding leftIn ride
+all-range limit c h k = go (leb (c .stop) limit) refl
+  where
+    go : (b : Bool) → leb (c .stop) limit ≡ b → AllSmall (ride (c .stage) (c .slot) (c .stop) (c .at) (cond b (c .stop - c .at) 0))
+    go true e = let z = leb-true (c .stop) limit e in all-ride (c .stage) (c .slot) (c .stop) (c .at) (c .stop - c .at) k (omega arith) refl
+    go false e = tt
+
+all-rides : (program nodes : List ℕ) (limit w stage slot n : ℕ) → limit ≤ 1024 → slot + n < 4294967296 → AllSmall (rides program nodes limit w stage slot n)
+unfolding rides rangeAt
+all-rides program nodes limit w stage slot zero h k = tt
+all-rides program nodes limit w stage slot (suc n) h k =
+    all-cat (inRange limit (rangeAt program nodes w stage slot)) (rides program nodes limit w stage (slot + 1) n)
+    (all-range limit (rangeAt program nodes w stage slot) h (omega arith)) (all-rides program nodes limit w stage (slot + 1) n h (omega arith))
+
+all-first : (program nodes : List ℕ) (m : Ranges) (slot roots : ℕ) → m .limit ≤ 1024 → slot ≤ m .«parents_top» → m .«ancestors_from» ≤ m .«ancestors_top» → m .«parents_top» < 4294967296 → m .«ancestors_top» < 4294967296
+    → AllSmall (rest program nodes m (firstCursor slot roots))
+unfolding rest later firstCursor
+all-first program nodes m slot roots h a b c d =
+    all-cat (inRange (m .limit) (cursorOf 0 slot 0 roots)) _ (all-range (m .limit) (cursorOf 0 slot 0 roots) h (omega arith))
+    (all-cat (rides program nodes (m .limit) 3 0 slot (m .«parents_top» - slot)) _ (all-rides program nodes (m .limit) 3 0 slot (m .«parents_top» - slot) h (omega arith))
+    (all-rides program nodes (m .limit) 5 1 (m .«ancestors_from») (m .«ancestors_top» - m .«ancestors_from») h (omega arith)))
+
+-- ---- where a scan stops: a small cursor, and what was found and what is left are at most what was live
+module _ (program nodes : List ℕ) (m : Ranges) where
+  abbrev pub Stop : ℕ → Sought → Type 0
+  Stop n (over found) = length found ≤ n
+  Stop n (stopped found c) = Small c × (length found + length (rest program nodes m c) ≤ n)
+
+  stop-more : (n : ℕ) (s : Sought) → Stop n s → Stop (suc n) s
+  stop-more n (over found) h = omega arith
+  stop-more n (stopped found c) (a, h) = (a, omega arith)
+
+  stop-found : (n a : ℕ) (s : Sought) → Stop n s → Stop (suc n) (foundToo a s)
+  unfolding foundToo
+  stop-found n a (over found) h = omega arith
+  stop-found n a (stopped found c) (b, h) = (b, omega arith)
+
+  pub seek-stop : (p q : ℕ → Bool) (cs : List Cursor) → Own program nodes m cs → AllSmall cs → Stop (length cs) (seek p q cs)
+  unfolding seek
+  seek-stop p q [] o a = omega arith
+  seek-stop p q (c ∷ cs) (e, o) (a, as′) = go (p (c .at)) (q (c .at)) (seek-stop p q cs o as′)
+    where
+      go : (x y : Bool) → Stop (length cs) (seek p q cs) → Stop (suc (length cs)) (cond x (cond y (stopped [] c) (foundToo (c .at) (seek p q cs))) (seek p q cs))
+      go true true h = let k = ap length e in (a, omega arith)
+      go true false h = stop-found (length cs) (c .at) (seek p q cs) h
+      go false y h = stop-more (length cs) (seek p q cs) h
+
+keeps : (p : ℕ → Bool) (xs : List ℕ) → scans.keep p xs ≡ keep p xs
+unfolding scans.keep
+keeps p [] = refl
+keeps p (x ∷ xs) = go (p x) (keeps p xs)
+  where
+    go : (b : Bool) → scans.keep p xs ≡ keep p xs → cond b (x ∷ scans.keep p xs) (scans.keep p xs) ≡ put-if b x (keep p xs)
+    go true h = ap (λ l. x ∷ l) h
+    go false h = h
+
+scan-more : (p q : ℕ → Bool) (a : ℕ) (as′ : List ℕ) → scan p q (a ∷ as′) ≡ cond (p a) (cond (q a) (stuck [] (a ∷ as′)) (found-too a (scan p q as′))) (scan p q as′)
+scan-more p q a as′ = go (p a) (q a)
+  where
+    go : (x y : Bool) → visit p q x y a as′ (scan p q as′) ≡ cond x (cond y (stuck [] (a ∷ as′)) (found-too a (scan p q as′))) (scan p q as′)
+    go true true = refl
+    go true false = refl
+    go false y = refl
+
+module _ (C : Compiled) (esi : Bool) (s : Stores) (g : Good (C .types) s) (h : Header C esi s) where
+  open Compiled C using (sheet, program, types)
+
+  -- ---- the flags
+  pub esi-is : esiOn (s .rows) ≡ esi
+  unfolding esiOn
+  esi-is = rw (h .flags) (go esi types)
+    where
+      go : (a b : Bool) → eqb (flagsOf a b % 2) 1 ≡ a
+      go true true = refl
+      go true false = refl
+      go false true = refl
+      go false false = refl
+
+  pub types-is : typesCounted (s .rows) ≡ types
+  unfolding typesCounted
+  types-is = rw (h .flags) (go esi types)
+    where
+      go : (a b : Bool) → eqb (flagsOf a b / 2 % 2) 1 ≡ b
+      go true true = refl
+      go true false = refl
+      go false true = refl
+      go false false = refl
+
+  -- ---- the positions
+  module _ (few : stackOf s .top .children < countLimit) where
+    pub child-position : childPosition (s .rows) ≡ number (rowsProgram C) (stackOf s)
+    unfolding childPosition stack.children levelAt
+    child-position = one-more (rowWord (s .rows) (hd s 0) 1) few ∙ add-one (rowWord (s .rows) (hd s 0) 1)
+
+    pub type-position : (x : List ℕ) → times-of x (stackOf s .top .types) < countLimit → typePosition (s .rows) (s .names) x ≡ number-of-name (rowsProgram C) (stackOf s) x
+    unfolding typePosition levelAt pairsAt
+    type-position x rare =
+        let p = tidy-pm (view s) (hd s 0) (hd s 1) (hd s 2) (hd s 3) (g .tidy) in
+        let e = times-top s p x in
+        rw (types-is, e) (go types refl)
+      where
+        none : types ≡ false → times-of x (stackOf s .top .types) ≡ 0
+        none t = let p = tidy-pm (view s) (hd s 0) (hd s 1) (hd s 2) (hd s 3) (g .tidy) in let q = g .plain t in let z : hd s 3 - rowWord (s .rows) (hd s 0) 4 ≡ 0 = omega arith in rw z
+
+        go : (b : Bool) → types ≡ b → cond b (oneMore (times-of x (stackOf s .top .types))) 1 ≡ suc (times-of x (stackOf s .top .types))
+        go true t = one-more (times-of x (stackOf s .top .types)) rare ∙ add-one (times-of x (stackOf s .top .types))
+        go false t = rw (none t)
