@@ -7,3 +7,6 @@ pub mod Pushing
 pub mod Counting
 pub mod Moving
 pub mod Scanning
+pub mod Bridging
+pub mod Fitting
+pub mod LowIds

@@ -15,7 +15,7 @@ use Rattle.exec.specs.declared.cursor.Cursor.{Cursor}
 use Rattle.exec.specs.declared.cursor.Ranges.{Ranges}
 use Rattle.exec.specs.Cursors.{cursorOf, firstCursor, rangeAt, leftIn, ride, inRange, rides, later, rest, ats}
 use Rattle.exec.specs.CursorLaws.{Own, own-first}
-use Rattle.exec.specs.Instructions.{tagPasses, asks}
+use Rattle.exec.specs.Instructions.{tagPasses, attributePasses, asks}
 use Rattle.exec.specs.Scans as scans
 use Rattle.exec.specs.Scans.{Sought, over, stopped, foundToo, seek, tagScan, allPass, attributeScan}
 use Rattle.exec.specs.ScanLaws.{length-ats, forget, seek-scan, tag-scan-all, attribute-scan-all}
@@ -82,9 +82,9 @@ module _ (program nodes : List ℕ) (m : Ranges) where
   Stop n (over found) = length found ≤ n
   Stop n (stopped found c) = Small c × (length found + length (rest program nodes m c) ≤ n)
 
-  stop-more : (n : ℕ) (s : Sought) → Stop n s → Stop (suc n) s
-  stop-more n (over found) h = omega arith
-  stop-more n (stopped found c) (a, h) = (a, omega arith)
+  pub stop-more : (n k : ℕ) (s : Sought) → n ≤ k → Stop n s → Stop k s
+  stop-more n k (over found) l h = omega arith
+  stop-more n k (stopped found c) l (a, h) = (a, omega arith)
 
   stop-found : (n a : ℕ) (s : Sought) → Stop n s → Stop (suc n) (foundToo a s)
   unfolding foundToo
@@ -99,7 +99,7 @@ module _ (program nodes : List ℕ) (m : Ranges) where
       go : (x y : Bool) → Stop (length cs) (seek p q cs) → Stop (suc (length cs)) (cond x (cond y (stopped [] c) (foundToo (c .at) (seek p q cs))) (seek p q cs))
       go true true h = let k = ap length e in (a, omega arith)
       go true false h = stop-found (length cs) (c .at) (seek p q cs) h
-      go false y h = stop-more (length cs) (seek p q cs) h
+      go false y h = stop-more (length cs) (suc (length cs)) (seek p q cs) (omega arith) h
 
 keeps : (p : ℕ → Bool) (xs : List ℕ) → scans.keep p xs ≡ keep p xs
 unfolding scans.keep
@@ -161,3 +161,76 @@ module _ (C : Compiled) (esi : Bool) (s : Stores) (g : Good (C .types) s) (h : H
         go : (b : Bool) → types ≡ b → cond b (oneMore (times-of x (stackOf s .top .types))) 1 ≡ suc (times-of x (stackOf s .top .types))
         go true t = one-more (times-of x (stackOf s .top .types)) rare ∙ add-one (times-of x (stackOf s .top .types))
         go false t = rw (none t)
+
+  -- ---- the first scan
+
+  -- A tag by its lower-cased name and its kind.
+  abbrev pub tagAt : List ℕ → ℕ → Tag
+  tagAt x kind = record { name = x; namespace = kind % 4; void = eqb (kind / 4 % 2) 1 }
+
+  -- What a scan found and what is left, as addresses.
+  abbrev pub forgotten : Sought → Scan
+  forgotten f = forget program (s .nodes) (liveRanges sheet (s .rows)) done stuck found-too (λ a found. refl) (λ a found left. refl) f
+
+  abbrev first : Cursor
+  first = firstLive sheet (s .rows)
+
+  module _ (fits : length (live-at (rowsProgram C) (stackOf s)) ≤ nodeCount sheet) where
+    slot-low : rowWord (s .rows) (hd s 0) 2 ≤ hd s 1
+    slot-low = tidy-km (view s) (hd s 0) (hd s 1) (hd s 2) (hd s 3) (g .tidy)
+
+    own : Own program (s .nodes) (liveRanges sheet (s .rows)) (restOf sheet program s first)
+    own = own-first program (s .nodes) (liveRanges sheet (s .rows)) (rowWord (s .rows) (hd s 0) 2) (rootCount sheet) slot-low (omega arith)
+
+    all-small : AllSmall (restOf sheet program s first)
+    all-small = all-first program (s .nodes) (liveRanges sheet (s .rows)) (rowWord (s .rows) (hd s 0) 2) (rootCount sheet) (C .few) slot-low (omega arith) (omega (arith, g .kt)) (omega (arith, g .at))
+
+    rest-fits : length (restOf sheet program s first) ≤ nodeCount sheet
+    rest-fits = let e = length-ats (restOf sheet program s first) in let k = ap length (live-all C s (g .tidy)) in omega arith
+
+    module _ (x : List ℕ) (kind : ℕ) where
+      scan-all : tagScan sheet program (s .nodes) (liveRanges sheet (s .rows)) x (nameKey x) (childPosition (s .rows)) (typePosition (s .rows) (s .names) x) first (nodeCount sheet)
+          ≡ seek (tagPasses sheet program x (nameKey x) (childPosition (s .rows)) (typePosition (s .rows) (s .names) x)) (asks program) (restOf sheet program s first)
+      scan-all = tag-scan-all sheet program (s .nodes) (liveRanges sheet (s .rows)) x (nameKey x) (childPosition (s .rows)) (typePosition (s .rows) (s .names) x) true [] first (nodeCount sheet) rest-fits
+
+      -- The first scan stops in good order.
+      pub begin-stop : Stop program (s .nodes) (liveRanges sheet (s .rows)) (nodeCount sheet) (calls.begin sheet program (s .rows) (s .names) (s .nodes) x kind)
+      unfolding begin firstCursor
+      begin-stop = go (isHtml kind)
+        where
+          go : (b : Bool) → Stop program (s .nodes) (liveRanges sheet (s .rows)) (nodeCount sheet) (cond b (tagScan sheet program (s .nodes) (liveRanges sheet (s .rows)) x (nameKey x) (childPosition (s .rows)) (typePosition (s .rows) (s .names) x) first (nodeCount sheet)) (stopped [] first))
+          go true =
+              let p = tagPasses sheet program x (nameKey x) (childPosition (s .rows)) (typePosition (s .rows) (s .names) x) in
+              subst (Stop program (s .nodes) (liveRanges sheet (s .rows)) (nodeCount sheet)) (sym scan-all)
+              (stop-more program (s .nodes) (liveRanges sheet (s .rows)) (length (restOf sheet program s first)) (nodeCount sheet) (seek p (asks program) (restOf sheet program s first)) rest-fits
+              (seek-stop program (s .nodes) (liveRanges sheet (s .rows)) p (asks program) (restOf sheet program s first) own all-small))
+          go false = let r = rest-fits in let l = slot-low in let a = C .roots-fit in let b = C .few in let c = g .kt in ((omega arith, omega arith, omega arith), omega arith)
+
+      module _ (few : stackOf s .top .children < countLimit) (rare : times-of x (stackOf s .top .types) < countLimit) where
+        -- It is the machine's.
+        pub begin-right : forgotten (calls.begin sheet program (s .rows) (s .names) (s .nodes) x kind) ≡ meaning.begin (rowsProgram C) (stackOf s) (tagAt x kind)
+        unfolding begin isHtml
+        begin-right = go (eqb (kind % 4) 0)
+          where
+            go : (b : Bool) → forgotten (cond b (tagScan sheet program (s .nodes) (liveRanges sheet (s .rows)) x (nameKey x) (childPosition (s .rows)) (typePosition (s .rows) (s .names) x) first (nodeCount sheet)) (stopped [] first))
+                ≡ scan-if (rowsProgram C) b (stackOf s) (tagAt x kind)
+            go true =
+                let p = tagPasses sheet program x (nameKey x) (childPosition (s .rows)) (typePosition (s .rows) (s .names) x) in
+                ap forgotten scan-all
+                ∙ seek-scan program (s .nodes) (liveRanges sheet (s .rows)) done stuck found-too (λ a found. refl) (λ a found left. refl) p (asks program) (scan p (asks program)) refl (scan-more p (asks program)) (restOf sheet program s first) own
+                ∙ (λ i. scan (λ n. tagPasses sheet program x (nameKey x) (child-position few i) (type-position few x rare i) n) (asks program) (live-all C s (g .tidy) i))
+            go false = ap (stuck []) (live-all C s (g .tidy))
+
+  -- ---- going on
+  module _ (few : stackOf s .top .children < countLimit) (rare : times-of (heldTag s .name) (stackOf s .top .types) < countLimit) (budget : length (restOf sheet program s (heldCursor (s .rows))) ≤ nodeCount sheet - hd s 7) (input outlines : List ℕ) where
+    -- What is found with the attributes is what the machine finds.
+    pub resume-right : resumed sheet program (s .rows) (s .names) (s .nodes) (heldName (s .rows) (s .names)) input outlines
+        ≡ heldFound (s .rows) (s .nodes) ++ keep (passes (rowsProgram C) (stackOf s) (heldTag s) (record { input = input; outlines = outlines })) (ats (restOf sheet program s (heldCursor (s .rows))))
+    unfolding resumed isHtml allPass
+    resume-right =
+        let x = heldName (s .rows) (s .names) in
+        let p = allPass sheet program x (nameKey x) (childPosition (s .rows)) (typePosition (s .rows) (s .names) x) (isHtml (heldKind (s .rows))) (attributesOf input outlines) in
+        ap (λ l. heldFound (s .rows) (s .nodes) ++ l)
+        (attribute-scan-all sheet program (s .nodes) (liveRanges sheet (s .rows)) x (nameKey x) (childPosition (s .rows)) (typePosition (s .rows) (s .names) x) (isHtml (heldKind (s .rows))) (attributesOf input outlines) (heldCursor (s .rows)) (nodeCount sheet - hd s 7) budget
+        ∙ keeps p (ats (restOf sheet program s (heldCursor (s .rows))))
+        ∙ (λ i. keep (λ n. tagPasses sheet program x (nameKey x) (child-position few i) (type-position few x rare i) n && attributePasses sheet program (isHtml (heldKind (s .rows))) (attributesOf input outlines) n) (ats (restOf sheet program s (heldCursor (s .rows))))))
