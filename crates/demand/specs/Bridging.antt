@@ -30,7 +30,8 @@ use Rattle.meaning.specs.Limits.{section-2, bad-name}
 use Rattle.meaning.specs.Calls.{Program, Call, start-tag, attributes, end-tag, ids-asked, Answer, matched, attributes-wanted, popped, top-ids, nothing-open, refused}
 use Rattle.meaning.specs.Machine as machine
 use Rattle.meaning.specs.Machine.{Item, Stack, Machine, Scan, done, stuck, known, times-of, bearing, nearest, first, ancestors-of, carried, live-at, accept, passes, pairs-of, weigh, top-of, push-refusal, answer-if, begin-if, resume, close-if, end-if, step, run}
-use Rattle.demand.specs.Statement.{Lent, refusing, HostCall, startTag, tagAttributes, endTag, idsAsked, callOf, wordsFrom, topAnswer, tagAnswered, endAnswered, called, answers}
+use Rattle.demand.specs.Sheets.{Lent}
+use Rattle.demand.specs.Statement.{refusing, HostCall, startTag, tagAttributes, endTag, idsAsked, callOf, wordsFrom, topAnswer, tagAnswered, endAnswered, called, answers}
 use Rattle.demand.specs.Rows.{Compiled, rowsProgram, rootsOf, hungOf}
 use Rattle.demand.specs.Decode.{hd, view, levelAt, itemsAt, stackOf, heldTag, restOf, decode, tidy-pm}
 use Rattle.demand.specs.Reading.{bearing-child, ancestors-all, ancestors-new, live-all, open-all, parents-total, pairs-total, times-top, known-top, popped-top, popped-few, popped-words}
@@ -432,7 +433,7 @@ module _ (C : Compiled) (esi : Bool) where
     end-met name out =
         let x = map lowerOf name in
         let n = poppedCount (s .rows) (s .names) x in
-        let r = cond (badName name) 20 (cond (ltb (length out) (n * idWords)) 29 0) in
+        let r : ℕ = cond (badName name) 20 (cond (ltb (length out) (n * idWords)) 29 0) in
         let e : r ≡ refusing .at-end x (length out) n = λ i. cond (bad-same name i) 20 (cond (ltb (length out) (n * idWords)) 29 0) in
         subst (λ m. Met (endAnswered s (endCall sheet program s name out)) (end-if P refusing (stackOf s) x (length out) m)) (popped-top s x)
         (subst (λ o. Met (endAnswered s o) (close-if P refusing (refusing .at-end x (length out) n) (stackOf s) n)) (sym (end-is name out))

@@ -17,7 +17,8 @@ use Rattle.meaning.specs.Names.{times-count}
 use Rattle.meaning.specs.Carrying.{bearers}
 use Rattle.meaning.specs.Answering.{hits-of, live-of, stack-of, carried-bearers, live-carried, finished, begin-hits, Stood, at-rest, held, said, step-said}
 use Rattle.meaning.specs.Bounds.{live-few, hits-few, bearers-few}
-use Rattle.demand.specs.Statement.{Lent, refusing}
+use Rattle.demand.specs.Sheets.{Lent}
+use Rattle.demand.specs.Statement.{refusing}
 use Rattle.demand.specs.Rows.{Compiled, rowsProgram, rootsOf, hungOf}
 use Rattle.demand.specs.Bridging.{P, Fit, FitScan, Times, Room, Rooms}
 
@@ -25,14 +26,12 @@ module _ (C : Compiled) (esi : Bool) (trees : TreeShaped (rootsOf (C .sheet) (C 
     (below : (a : ℕ) → Way (rootsOf (C .sheet) (C .program)) (hungOf (C .sheet) (C .program)) a → a < nodeCount (C .sheet)) where
   times-few : (c : Where Lent) → Times C esi (stack-of (rowsProgram C) c)
   times-few start x = omega arith
-  times-few (after c e) x = go (C .types) (same-name x (e .tag .name)) refl
+  times-few (after c e) x = go (times-few c x) (C .types) (same-name x (e .tag .name)) refl
     where
-      ts = stack-of (rowsProgram C) c .top .types
-
-      go : (b d : Bool) → same-name x (e .tag .name) ≡ d → times-of x (cond b (count-name (e .tag .name) (stack-of (rowsProgram C) c .top .types)) (stack-of (rowsProgram C) c .top .types)) ≤ suc (stack-of (rowsProgram C) c .top .children)
-      go false d q = let h = times-few c x in omega arith
-      go true true q = let h = times-few c x in let k = times-count x (e .tag .name) (stack-of (rowsProgram C) c .top .types) in rw (k, q) (omega arith)
-      go true false q = let h = times-few c x in let k = times-count x (e .tag .name) (stack-of (rowsProgram C) c .top .types) in rw (k, q) (omega arith)
+      go : times-of x (stack-of (rowsProgram C) c .top .types) ≤ stack-of (rowsProgram C) c .top .children → (b d : Bool) → same-name x (e .tag .name) ≡ d → times-of x (cond b (count-name (e .tag .name) (stack-of (rowsProgram C) c .top .types)) (stack-of (rowsProgram C) c .top .types)) ≤ suc (stack-of (rowsProgram C) c .top .children)
+      go h false d q = omega arith
+      go h true true q = let k = times-count x (e .tag .name) (stack-of (rowsProgram C) c .top .types) in rw (k, q) (omega arith)
+      go h true false q = let k = times-count x (e .tag .name) (stack-of (rowsProgram C) c .top .types) in rw (k, q) (omega arith)
   times-few (inside c e) x = omega arith
 
   fit : (c : Where Lent) (e : Element Lent) (found : List ℕ) → found ≡ hits-of (rowsProgram C) (spot c e) → Fit C esi (stack-of (rowsProgram C) c) found

@@ -17,7 +17,7 @@ use Rattle.meaning.specs.Match.{Way}
 use Rattle.meaning.specs.Elements.{Tag, html}
 use Rattle.meaning.specs.Spans.{span}
 use Rattle.meaning.specs.Calls.{Program}
-use Rattle.demand.specs.Statement.{Lent}
+use Rattle.demand.specs.Sheets.{Lent}
 use Rattle.demand.specs.Words.{nodeIds, words-rise, words-united}
 
 module _ (sheet program : List ℕ) where

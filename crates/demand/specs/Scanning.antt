@@ -29,7 +29,7 @@ use Rattle.meaning.specs.Lists.{keep, put-if}
 use Rattle.meaning.specs.Elements.{Tag, html}
 use Rattle.meaning.specs.Machine.{Stack, Scan, done, stuck, found-too, visit, scan, times-of, live-at, number, number-of-name, tag-passes, passes, scan-if}
 use Rattle.meaning.specs.Machine as meaning
-use Rattle.demand.specs.Statement.{Lent}
+use Rattle.demand.specs.Sheets.{Lent}
 use Rattle.demand.specs.Rows.{Compiled, rowsProgram}
 use Rattle.demand.specs.Decode.{hd, view, pairsAt, levelAt, stackOf, heldTag, restOf, tidy-km, tidy-pm}
 use Rattle.demand.specs.Reading.{times-top, live-all}

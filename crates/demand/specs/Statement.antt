@@ -1,43 +1,31 @@
 -- DEMAND 3 ON BYTES: every run of calls on a fresh machine is answered as the demand over selector trees says (`meaning`, Demand).
-use mathlib.Core.Bool.{Bool, not}
+use mathlib.Core.Path.{_≡_}
+use mathlib.Core.Bool.{Bool, true, not}
 use mathlib.Core.List.{List, [], _∷_, map}
-use Prim.Native.Nat.{ℕ, zero, suc, _+_, _*_}
-use lib.ListN.{length}
+use Prim.Native.Nat.{ℕ, zero, suc, _+_, _*_, _<_, _≤_}
+use lib.ListN.{length, getD}
 use Rattle.cells.specs.Stretches.{cellsFrom}
 use Rattle.rules.specs.Bytes.{lowerOf}
 use Rattle.rules.specs.Names.{voidName}
-use Rattle.rules.specs.Attributes.{attributesOf, goodOutlines}
-use Rattle.rules.specs.Tests.{attributeTestHolds}
-use Rattle.sheet.specs.Meaning.{sheetTests}
+use Rattle.rules.specs.Attributes.{goodOutlines}
+use Rattle.sheet.specs.Records.{NodeRecord}
+use Rattle.sheet.specs.Parser.{Parsed, parseSheet}
+use Rattle.compiler.specs.Compiler.{places}
 use Rattle.stack.specs.Stores.{Stores, stores, idWords}
+use Rattle.weighing.specs.Weighing.{sized}
 use Rattle.machine.specs.declared.Answer as machine
+use Rattle.machine.specs.declared.Made.{Made}
 use Rattle.machine.specs.declared.Popped.{Popped}
 use Rattle.machine.specs.declared.Top.{Top}
-use Rattle.machine.specs.Calls.{Outcome, Ended, startCall, attributesCall, endCall, idSetCall}
-use Rattle.meaning.specs.Elements.{html}
-use Rattle.meaning.specs.Tests.{Tests}
+use Rattle.machine.specs.Calls.{Outcome, Ended, Fresh, startCall, attributesCall, endCall, idSetCall, freshCall}
+use Rattle.meaning.specs.Lists.{_∈_}
+use Rattle.meaning.specs.Document as document
+use Rattle.meaning.specs.Trees.{Forest, size}
+use Rattle.meaning.specs.Elements.{Where, Tag, Given}
 use Rattle.meaning.specs.Limits.{section-2, refusals}
+use Rattle.meaning.specs.Demand.{idle, Goes}
 use Rattle.meaning.specs.Calls.{Refusals, Call, start-tag, attributes, end-tag, ids-asked, Answer, matched, attributes-wanted, popped, top-ids, nothing-open, refused}
-
--- What is lent with attributes: the input, and the outlines of names and values in it.
-pub record Lent : Type 0 where
-  pub input : List ℕ
-  pub outlines : List ℕ
-
--- The tests of a sheet, over attributes as they are lent.
-abbrev pub lentTests : Tests Lent
-lentTests = record {
-  D = sheetTests .D;
-  TagTest = sheetTests .TagTest;
-  AttributeTest = sheetTests .AttributeTest;
-  ids = sheetTests .ids;
-  tag-tests = sheetTests .tag-tests;
-  attribute-tests = sheetTests .attribute-tests;
-  tag-test = sheetTests .tag-test;
-  attribute-test = λ test tag lent. sheetTests .attribute-test test tag (attributesOf (lent .input) (lent .outlines));
-  of-type = sheetTests .of-type;
-  not-of-type = sheetTests .not-of-type;
-}
+use Rattle.demand.specs.Sheets.{Lent, lentTests, sheetProgram}
 
 -- The refusals of 01, section 2, with its numbers.
 abbrev pub refusing : Refusals Lent
@@ -95,3 +83,17 @@ module _ (sheet program : List ℕ) where
   abbrev pub answers : Stores → List HostCall → List (Answer (List ℕ))
   answers s [] = []
   answers s (x ∷ xs) = called s x .0 ∷ answers (called s x .1) xs
+
+-- The stores after a machine is made in them.
+abbrev pub madeIn : Stores → Fresh → Stores
+madeIn s m = stores (m .rows) (s .names) (s .ids) (s .nodes)
+
+-- THE DEMAND: for every sheet of bytes that is good, every ESI flag, an instruction store and state stores of sufficient length, whatever they hold, whatever attributes go unseen, and every list of calls:
+-- the machine is made, the calls are answered as the demand over the sheet's selector trees says, and none gets 30 (nor 31). Proved in Proof: `demand-3-on-bytes`.
+abbrev pub Demand-3-on-bytes : Type 0
+Demand-3-on-bytes =
+    (sheet : List ℕ) → ((i : ℕ) → getD sheet i 0 < 256) → (forest : Forest NodeRecord) (next : ℕ) → parseSheet sheet ≡ Parsed.read forest next
+    → (esi : Bool) (program : List ℕ) (s : Stores) → size forest ≤ places program → sized s ≡ true → (ghost : Where Lent → Tag → Given Lent) (xs : List HostCall)
+    → (freshCall sheet esi program s .made ≡ Made.Made)
+    × Goes lentTests forest (sheetProgram forest) refusing ghost (idle document.start) (map (callOf esi) xs) (answers sheet (freshCall sheet esi program s .program) (madeIn s (freshCall sheet esi program s)) xs)
+    × ((r : ℕ) → refused r ∈ answers sheet (freshCall sheet esi program s .program) (madeIn s (freshCall sheet esi program s)) xs → r < 30)

@@ -12,7 +12,7 @@ use lib.ListN.{length, getD, length-set}
 use Rattle.cells.specs.Ids.{bit, hasId, idsFrom, idsOf, withId}
 use Rattle.cells.specs.IdLaws as ids
 use Rattle.cells.specs.IdLaws.{member-inside, ids-rise}
-use Rattle.exec.specs.FoundIds.{idsOfNode, withIds, withIdsOf, listed, gathered-members}
+use Rattle.exec.specs.FoundIds.{idsOfNode, withIds, withIdsOf, listed, with-ids-law, gathered-members}
 use Rattle.meaning.specs.Lists.{_∈_, here, there, Rising, keep, gather}
 use Rattle.meaning.specs.ListLaws.{∈-left, ∈-right, ∈-split, keep-mem, mem-keep, gather-mem, mem-gather}
 
@@ -92,15 +92,38 @@ no-member : (i : ℕ) → hasId (0 ∷ 0 ∷ []) i ≡ false
 unfolding hasId
 no-member i = rw (no-word (i / 64), zero-div (2 ^ (i % 64)))
 
+-- Two words hold ids below 128.
+pub low-kept : (ids : ℕ → List ℕ) (found : List ℕ) (i : ℕ) → i ∈ gather (λ a. keep (λ j. ltb j 128) (ids a)) found → i < 128
+low-kept ids found i m = let (a, b, c) = gather-mem (λ a. keep (λ j. ltb j 128) (ids a)) found m in ltb-true i 128 (is-true (ltb i 128) (keep-mem (λ j. ltb j 128) (ids a) c .1))
+
+length-ids : (words more : List ℕ) → length (withIds words more) ≡ length words
+unfolding withIds withId
+length-ids words [] = refl
+length-ids words (id ∷ more) = length-ids (withId words id) more ∙ length-set words (id / 64) _
+
+pub words-of : (xs : List ℕ) → ((i : ℕ) → i ∈ xs → i < 128) → (i : ℕ) → (i ∈ idsOf (withIds (0 ∷ 0 ∷ []) xs)) ↔ (i ∈ xs)
+unfolding idsOf
+words-of xs low i = (
+  (λ m. let t = listed-member (withIds (0 ∷ 0 ∷ []) xs) 0 65536 i m in within t (ltb i 128) refl),
+  (λ m.
+      let h = low i m in
+      member-listed (withIds (0 ∷ 0 ∷ []) xs) 0 65536 i (omega arith) (omega arith) (rw (has i h) (mem-listed i xs m))),
+)
+  where
+    has : (i : ℕ) → i < 128 → hasId (withIds (0 ∷ 0 ∷ []) xs) i ≡ listed i xs
+    has i h = with-ids-law (0 ∷ 0 ∷ []) xs i (omega arith) ∙ rw (no-member i)
+
+    within : T (hasId (withIds (0 ∷ 0 ∷ []) xs) i) → (b : Bool) → ltb i 128 ≡ b → i ∈ xs
+    within t true e = listed-mem i xs (rw (has i (ltb-true i 128 e)) at t)
+    within t false e =
+        let l = length-ids (0 ∷ 0 ∷ []) xs in
+        let k : 128 ≤ i = ltb-false i 128 e in
+        absurd (subst T (member-inside (withIds (0 ∷ 0 ∷ []) xs) i (omega arith)) t)
+
 module _ (sheet program : List ℕ) where
   -- The ids that a node's record lists, as far as two words reach.
   abbrev pub nodeIds : ℕ → List ℕ
   nodeIds a = keep (λ i. ltb i 128) (idsOfNode sheet program a)
-
-  length-ids : (words more : List ℕ) → length (withIds words more) ≡ length words
-  unfolding withIds withId
-  length-ids words [] = refl
-  length-ids words (id ∷ more) = length-ids (withId words id) more ∙ length-set words (id / 64) _
 
   length-found : (words found : List ℕ) → length (withIdsOf sheet program words found) ≡ length words
   unfolding withIdsOf
@@ -111,9 +134,6 @@ module _ (sheet program : List ℕ) where
   pub two-words : (found : List ℕ) → length (withIdsOf sheet program (0 ∷ 0 ∷ []) found) ≡ 2
   two-words found = length-found (0 ∷ 0 ∷ []) found
 
-  few-ids : (found : List ℕ) (i : ℕ) → i ∈ gather nodeIds found → i < 128
-  few-ids found i m = let (a, b, c) = gather-mem nodeIds found m in ltb-true i 128 (is-true (ltb i 128) (keep-mem (λ j. ltb j 128) (idsOfNode sheet program a) c .1))
-
   has-found : (found : List ℕ) (i : ℕ) → i < 128 → hasId (withIdsOf sheet program (0 ∷ 0 ∷ []) found) i ≡ listed i (gather (idsOfNode sheet program) found)
   has-found found i h = gathered-members sheet program (0 ∷ 0 ∷ []) found i (omega arith) ∙ rw (no-member i, flat-gather (idsOfNode sheet program) found)
 
@@ -123,7 +143,7 @@ module _ (sheet program : List ℕ) where
   words-united found i = (
     (λ m. let t = listed-member (withIdsOf sheet program (0 ∷ 0 ∷ []) found) 0 65536 i m in within t (ltb i 128) refl),
     (λ m.
-        let h = few-ids found i m in
+        let h = low-kept (idsOfNode sheet program) found i m in
         let (a, b, c) = gather-mem nodeIds found m in
         let d = mem-gather (idsOfNode sheet program) found b (keep-mem (λ j. ltb j 128) (idsOfNode sheet program a) c .0) in
         member-listed (withIdsOf sheet program (0 ∷ 0 ∷ []) found) 0 65536 i (omega arith) (omega arith) (rw (has-found found i h) (mem-listed i (gather (idsOfNode sheet program) found) d))),
