@@ -112,9 +112,9 @@ words-same xs ys a b (suc n) h =
     let h0 : getD ys (b * idWords) 0 ≡ getD xs (a * idWords) 0 = ap (λ (i : ℕ). getD ys i 0) (sym y) ∙ h 0 (omega arith) ∙ ap (λ (i : ℕ). getD xs i 0) y′ in
     let h1 = h 1 (omega arith) in
     let more = words-same xs ys (a + 1) (b + 1) n (λ j l.
-        let e : (b + 1) * idWords + j ≡ b * idWords + (2 + j) = omega arith in
-        let e′ : (a + 1) * idWords + j ≡ a * idWords + (2 + j) = omega arith in
-        ap (λ (i : ℕ). getD ys i 0) e ∙ h (2 + j) (omega arith) ∙ ap (λ (i : ℕ). getD xs i 0) (sym e′)) in
+    let e : (b + 1) * idWords + j ≡ b * idWords + (2 + j) = omega arith in
+    let e′ : (a + 1) * idWords + j ≡ a * idWords + (2 + j) = omega arith in
+    ap (λ (i : ℕ). getD ys i 0) e ∙ h (2 + j) (omega arith) ∙ ap (λ (i : ℕ). getD xs i 0) (sym e′)) in
     λ i. (h0 i ∷ h1 i ∷ []) ∷ more i
 
 buffer-words : (out ids : List ℕ) (k n : ℕ) → n * idWords ≤ length out → wordsFrom (written out 0 (cellsFrom ids (idsAt k) (n * idWords))) 0 n ≡ wordsFrom ids k n

@@ -238,6 +238,7 @@ module _ (sheet store : List ℕ) (bytes : (i : ℕ) → getD sheet i 0 < 256) (
     room = rows-room;
     uncounted = laid-uncounted lentTests f (rootsOf sheet prog) (hungOf sheet prog) (tagTestsOf sheet prog) roots-laid hung-laid tags-laid;
   }
+
   pub made-reads : Reads lentTests f (rowsProgram made)
   made-reads = record {
     roots = roots-laid;

@@ -16,7 +16,6 @@ use Rattle.meaning.specs.Elements.{Tag}
 use Rattle.meaning.specs.Machine.{Counter, Level, Item, Stack, Machine, pops}
 use Rattle.demand.specs.Rows.{Compiled, rowsProgram}
 
-
 -- what is read off the stores: of row k; the nodes from top a to top b; the pairs from top a to top b
 pub record View : Type 0 where
   pub nameLength : ℕ → ℕ

@@ -1,6 +1,6 @@
 -- Demand 3 on bytes is proved.
 use mathlib.Core.Path.{_≡_, refl, sym, _∙_, ap, subst}
-use mathlib.Core.Bool.{Bool, true, false, cond, not, false≢true}
+use mathlib.Core.Bool.{Bool, true, false, cond, not, _&&_, false≢true}
 use mathlib.Core.List.{List, [], _∷_, map}
 use Prim.Native.Nat.{ℕ, suc, _+_, _*_, _/_, _%_, _<_, _≤_}
 use native.Mathlib.Omega.{arith}
@@ -8,6 +8,7 @@ use lib.ListN.{length, getD}
 use lib.Seq.{sets}
 use lib.Dec.{ltb, leb}
 use borrow.Author.Tests.{le-ltb, ltb-false, leb-true}
+use Rattle.rules.specs.Attributes.{goodOutlines}
 use Rattle.sheet.specs.Records.{NodeRecord}
 use Rattle.sheet.specs.Parser.{Parsed, parseSheet, nodeCount}
 use Rattle.sheet.specs.Spelling.{Sheet}
@@ -23,9 +24,9 @@ use Rattle.meaning.specs.Document.{start}
 use Rattle.meaning.specs.Trees.{Forest, size}
 use Rattle.meaning.specs.Layout.{layout}
 use Rattle.meaning.specs.Match.{Way}
-use Rattle.meaning.specs.Elements.{Where, Tag, Given}
+use Rattle.meaning.specs.Elements.{Where, Name, Tag, Given, Element, element, has-content}
 use Rattle.meaning.specs.Limits.{section-2, bad-name}
-use Rattle.meaning.specs.Calls.{Call, Answer, matched, attributes-wanted, popped, top-ids, nothing-open, refused}
+use Rattle.meaning.specs.Calls.{Load, Call, Answer, matched, attributes-wanted, popped, top-ids, nothing-open, refused}
 use Rattle.meaning.specs.Machine.{Machine, empty, run}
 use Rattle.meaning.specs.Demand.{Moment, idle, Comes, refused-push, accepted, Does, start-refused, start-waits, start-whole, start-early, attributes-unasked, attributes-refused, attributes-whole, end-early, end-refused, end-pops, asked-top, asked-none, Goes, over, goes}
 use Rattle.meaning.specs.Answering.{at-rest}
@@ -67,21 +68,33 @@ one-low : (a : Bool) → cond a 24 0 < 30
 one-low true = omega arith
 one-low false = omega arith
 
+start-refusal-low : (w : Load) (t : Tag) → refusing .at-start w t < 30
+start-refusal-low w t = start-low (bad-name section-2 (t .name)) (ltb 2 (t .namespace)) (leb 2147483647 (w .children)) (w .new-pair && leb 512 (w .pairs))
+
+push-refusal-low : (w : Load) (content : Bool) (givers : ℕ) → refusing .at-push w content givers < 30
+push-refusal-low w content givers = two-low 27 28 (omega arith) (omega arith) (content && leb 256 (w .opens)) (content && ltb 4096 (w .givers + givers))
+
+attributes-refusal-low : (g : Lent) → refusing .at-attributes g < 30
+attributes-refusal-low g = one-low (not (goodOutlines (g .input) (g .outlines)))
+
+end-refusal-low : (x : Name) (room n : ℕ) → refusing .at-end x room n < 30
+end-refusal-low x room n = two-low 20 29 (omega arith) (omega arith) (bad-name section-2 x) (ltb room (n * 2))
+
 module _ (f : Forest NodeRecord) (ghost : Where Lent → Tag → Given Lent) where
-  comes-low : (old : Moment Lent) (c : Where Lent) (e : _) (a : Answer (List ℕ)) (m : Moment Lent) → Comes lentTests f (sheetProgram f) refusing ghost old c e a m → refusal-of a < 30
-  comes-low old c e a m (refused-push (w, g, l, h, z)) = subst (λ (n : ℕ). n < 30) z (two-low 27 28 (omega arith) (omega arith) _ _)
+  comes-low : (old : Moment Lent) (c : Where Lent) (e : Element Lent) (a : Answer (List ℕ)) (m : Moment Lent) → Comes lentTests f (sheetProgram f) refusing ghost old c e a m → refusal-of a < 30
+  comes-low old c e a m (refused-push (w, g, l, h, z)) = subst (λ (n : ℕ). n < 30) z (push-refusal-low w (has-content e) g)
   comes-low old c e a m (accepted h l) = omega arith
 
   does-low : (m : Moment Lent) (x : Call Lent) (a : Answer (List ℕ)) (k : Moment Lent) → Does lentTests f (sheetProgram f) refusing ghost m x a k → refusal-of a < 30
-  does-low m x a k (start-refused (w, l, z)) = subst (λ (n : ℕ). n < 30) z (start-low _ _ _ _)
+  does-low m x a k (start-refused {t = t} (w, l, z)) = subst (λ (n : ℕ). n < 30) z (start-refusal-low w t)
   does-low m x a k (start-waits h w) = omega arith
-  does-low m x a k (start-whole h w e) = comes-low _ _ _ a k e
+  does-low m x a k (start-whole {c = c} {t = t} h w e) = comes-low m c (element t (ghost c t)) a k e
   does-low m x a k start-early = omega arith
   does-low m x a k attributes-unasked = omega arith
-  does-low m x a k (attributes-refused z) = subst (λ (n : ℕ). n < 30) z (one-low _)
-  does-low m x a k (attributes-whole h e) = comes-low _ _ _ a k e
+  does-low m x a k (attributes-refused {g = g} z) = subst (λ (n : ℕ). n < 30) z (attributes-refusal-low (g .attributes))
+  does-low m x a k (attributes-whole {c = c} {t = t} {g = g} h e) = comes-low m c (element t g) a k e
   does-low m x a k end-early = omega arith
-  does-low m x a k (end-refused h z) = subst (λ (n : ℕ). n < 30) z (two-low 20 29 (omega arith) (omega arith) _ _)
+  does-low m x a k (end-refused {x = y} {room = room} {ss = ss} h z) = subst (λ (n : ℕ). n < 30) z (end-refusal-low y room (length ss))
   does-low m x a k (end-pops h e l) = omega arith
   does-low m x a k (asked-top h l) = omega arith
   does-low m x a k (asked-none h) = omega arith
@@ -107,10 +120,10 @@ module _ (sheet : List ℕ) (bytes : (i : ℕ) → getD sheet i 0 < 256) (f : Fo
   good : Sheet sheet f
   good = good-sheet sheet f next parsed
 
-  C : Compiled
+  abbrev C : Compiled
   C = made sheet program bytes f good room
 
-  after : Stores
+  abbrev after : Stores
   after = stores (freshRows (s .rows) madeMark (length sheet) (flagsOf esi (usesNthOfType f))) (s .names) (s .ids) (s .nodes)
 
   -- A fresh machine is made.
@@ -119,11 +132,11 @@ module _ (sheet : List ℕ) (bytes : (i : ℕ) → getD sheet i 0 < 256) (f : Fo
   fresh-is =
       let h = good .short in
       let z : length sheet % 4294967296 ≡ length sheet = omega arith in
-      rw (big, parsed, le-ltb (places program) (size f) room, z)
+      rw (big, parsed, le-ltb (places program) (size f) room, z, parsed, le-ltb (places program) (size f) room)
 
   module _ (ghost : Where Lent → Tag → Given Lent) (xs : List HostCall) where
     answered : answers sheet (sets program 0 (rows (layout 0 f))) after xs ≡ run (rowsProgram C) refusing (Machine.ready empty) (map (callOf esi) xs)
-    unfolding usesNthOfType
+    unfolding usesNthOfType freshRows
     answered =
         let (fr, fn, fi, fk) = sizes s big in
         let g = moving.fresh-good C esi s fr fn fi fk in

@@ -138,8 +138,8 @@ module _ (sheet store : List ℕ) (bytes : (i : ℕ) → getD sheet i 0 < 256) (
       let l = length-layout 0 f in
       let a = weight-within testCount xs (span 0 (length (layout 0 f))) d (λ x m. let k = h x m in span-mem 0 (length (layout 0 f)) x (omega arith) (omega arith)) in
       let b = total-span testCount (layout 0 f) 0 (λ a i e.
-          let z : 0 + a ≡ a = omega arith in
-          ap testCount z ∙ ap₂ (λ (x y : ℕ). x + y) (tag-count sheet store bytes f good room a i e ∙ sym (tags-many sheet store bytes f good room a i e)) (attribute-count sheet store bytes f good room a i e ∙ sym (attributes-many sheet store bytes f good room a i e))) in
+      let z : 0 + a ≡ a = omega arith in
+      ap testCount z ∙ ap₂ (λ (x y : ℕ). x + y) (tag-count sheet store bytes f good room a i e ∙ sym (tags-many sheet store bytes f good room a i e)) (attribute-count sheet store bytes f good room a i e ∙ sym (attributes-many sheet store bytes f good room a i e))) in
       let c = total-layout f in
       let e = spelt-tests (good .spelt) in
       omega arith
