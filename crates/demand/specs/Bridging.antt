@@ -32,7 +32,7 @@ use Rattle.meaning.specs.Machine as machine
 use Rattle.meaning.specs.Machine.{Item, Stack, Machine, Scan, done, stuck, known, times-of, bearing, nearest, first, ancestors-of, carried, live-at, accept, passes, pairs-of, weigh, top-of, push-refusal, answer-if, begin-if, resume, close-if, end-if, step, run}
 use Rattle.demand.specs.Sheets.{Lent}
 use Rattle.demand.specs.Statement.{refusing, HostCall, startTag, tagAttributes, endTag, idsAsked, callOf, wordsFrom, topAnswer, tagAnswered, endAnswered, called, answers}
-use Rattle.demand.specs.Rows.{Compiled, rowsProgram, rootsOf, hungOf}
+use Rattle.demand.specs.Rows.{testBytes, Compiled, rowsProgram, rootsOf, hungOf}
 use Rattle.demand.specs.Decode.{hd, view, levelAt, itemsAt, stackOf, heldTag, restOf, decode, tidy-pm}
 use Rattle.demand.specs.Reading.{bearing-child, ancestors-all, ancestors-new, live-all, open-all, parents-total, pairs-total, times-top, known-top, popped-top, popped-few, popped-words}
 use Rattle.demand.specs.Counting.{Good}
@@ -143,6 +143,7 @@ module _ (C : Compiled) (esi : Bool) where
     pub children : stackOf s .top .children < 2147483647
     pub spare : Spare (stackOf s) (hd s 3) (heldTag s .name)
     pub budget : length (restOf sheet program s (heldCursor (s .rows))) ≤ nodeCount sheet - hd s 7
+    pub light : testBytes sheet program (ats (restOf sheet program s (heldCursor (s .rows)))) ≤ length sheet
 
   pub record Fine (s : Stores) : Type 0 where
     pub good : Good types s
@@ -161,7 +162,7 @@ module _ (C : Compiled) (esi : Bool) where
   Times k = (x : Name) → times-of x (k .top .types) ≤ k .top .children
 
   abbrev pub Room : Machine (List ℕ) → Call Lent → Type 0
-  Room (Machine.ready k) (start-tag t) = Times k × (length (live-at P k) ≤ nodeCount sheet) × FitScan k (machine.begin P k t)
+  Room (Machine.ready k) (start-tag t) = Times k × (length (live-at P k) ≤ nodeCount sheet) × (testBytes sheet program (live-at P k) ≤ length sheet) × FitScan k (machine.begin P k t)
   Room (Machine.ready k) (attributes g) = Unit
   Room (Machine.ready k) (end-tag x r) = Unit
   Room (Machine.ready k) ids-asked = Unit
@@ -276,9 +277,9 @@ module _ (C : Compiled) (esi : Bool) where
   spare-same k k′ p p′ x x′ a b c h = rw (a, b, c) h
 
   module _ (s : Stores) (g : Good types s) (h : Header C esi s) (x : List ℕ) (kind : ℕ) (hx : length x ≤ nameLimit) (few : stackOf s .top .children < 2147483647) (spare : Spare (stackOf s) (hd s 3) x) where
-    waited : (found : List ℕ) (c : Cursor) → Small c → length found + length (restOf sheet program s c) ≤ nodeCount sheet
+    waited : (found : List ℕ) (c : Cursor) → Small c → length found + length (restOf sheet program s c) ≤ nodeCount sheet → testBytes sheet program (ats (restOf sheet program s c)) ≤ length sheet
         → Met (attributes-wanted, held s x kind found (c .stage) (cell (c .slot)) (cell (c .at)) (cell (c .stop))) (attributes-wanted, Machine.waits (stackOf s) (tagAt C esi s g h x kind) found (ats (restOf sheet program s c)))
-    waited found c (c1, c2, c3) fit =
+    waited found c (c1, c2, c3) fit light =
         let m = C .few in
         let hm : length found ≤ foundLimit = omega arith in
         let st = c .stage in
@@ -308,6 +309,7 @@ module _ (C : Compiled) (esi : Bool) where
               children = subst (λ (k : Stack (List ℕ)). k .top .children < 2147483647) (sym (w .stack)) few;
               spare = spare-same (stackOf s) _ (hd s 3) _ x _ (w .stack) (wait-low types s g x kind found st sl a so hx hm 3 (omega arith)) (wait-name types s g x kind found st sl a so hx hm) spare;
               budget = rw (wait-rest types s g x kind found st sl a so hx hm sheet program c refl e2 e3 e4, n 3 (omega arith)) (omega arith);
+              light = rw (wait-rest types s g x kind found st sl a so hx hm sheet program c refl e2 e3 e4) light;
             };
           };
         }
@@ -362,11 +364,11 @@ module _ (C : Compiled) (esi : Bool) where
     h = f .header
 
     module _ (x : List ℕ) (kind : ℕ) (hx : length x ≤ nameLimit) (few : stackOf s .top .children < 2147483647) (times : Times (stackOf s)) (spare : Spare (stackOf s) (hd s 3) x) where
-      begun-met : (so : Sought) → Stop program (s .nodes) (liveRanges sheet (s .rows)) (nodeCount sheet) so → FitScan (stackOf s) (forgotten C esi s g h so)
+      begun-met : (so : Sought) → Stop sheet program (s .nodes) (liveRanges sheet (s .rows)) (nodeCount sheet) (length sheet) so → FitScan (stackOf s) (forgotten C esi s g h so)
           → Met (tagAnswered (calls.begun sheet program s x kind so)) (machine.begun P refusing (stackOf s) (tagAt C esi s g h x kind) (forgotten C esi s g h so))
       unfolding calls.begun hasContent isHtml
       begun-met (over found) st fit = gave s (Machine.ready (stackOf s)) (at-rest s z) f s g h z (tagAt C esi s g h x kind) (content (tagAt C esi s g h x kind) false) found hx few times spare fit
-      begun-met (stopped found c) (sm, l) fit = waited s g h x kind hx few spare found c sm l
+      begun-met (stopped found c) (sm, l, y) fit = waited s g h x kind hx few spare found c sm l y
 
     opened : (n : ℕ) (name : List ℕ) → Room (Machine.ready (stackOf s)) (start-tag (tagOf n name)) → (r : ℕ) → gate s n name ≡ r
         → Met (tagAnswered (startIf r s (map lowerOf name) (kindOf n (voidName esi name)))) (begin-if P refusing r (stackOf s) (tagOf n name))
@@ -379,14 +381,14 @@ module _ (C : Compiled) (esi : Bool) where
         let few = children-low s e3 in
         let q = pairs-total C s (hd s 0) (hd s 1) (hd s 2) (hd s 3) (g .tidy) in
         let spare : Spare (stackOf s) (hd s 3) x = λ u k. subst (λ (p : ℕ). p < pairLimit) q (full-of types (known x (stackOf s .top .types)) (pairs-of P (stackOf s)) (sym (pairs-full s f x) ∙ e4) u k) in
-        let (times, live, fit) = room in
+        let (times, live, light, fit) = room in
         let t = times x in
         let (a, b) = kind-back n (voidName esi name) (ltb-false 2 n e2) in
         let tag : tagAt C esi s g h x kind ≡ tagOf n name = λ i. record { name = x; namespace = a i; void = b i } in
-        let w = begin-right C esi s g h live x kind (omega arith) (omega arith) in
+        let w = begin-right C esi s g h live light x kind (omega arith) (omega arith) in
         subst (λ u. Met (tagAnswered (startIf 0 s x kind)) (machine.begun P refusing (stackOf s) u (machine.begin P (stackOf s) u))) tag
         (subst (λ sc. Met (tagAnswered (startIf 0 s x kind)) (machine.begun P refusing (stackOf s) (tagAt C esi s g h x kind) sc)) w
-        (begun-met x kind (omega arith) few times spare (calls.begin sheet program (s .rows) (s .names) (s .nodes) x kind) (begin-stop C esi s g h live x kind)
+        (begun-met x kind (omega arith) few times spare (calls.begin sheet program (s .rows) (s .names) (s .nodes) x kind) (begin-stop C esi s g h live light x kind)
         (subst (FitScan (stackOf s)) (sym w) (subst (λ u. FitScan (stackOf s) (machine.begin P (stackOf s) u)) (sym tag) fit))))
     opened n name room (suc r) e = record { answer = refl; machine = at-rest s z; fine = f }
 

@@ -51,7 +51,7 @@ module _ (s : List ℕ) where
   length-tests zero at = refl
   length-tests (suc n) at = ap suc (length-tests n (endOf s at))
 
-  ends-same : (n at : ℕ) → instructions.testsEnd s n at ≡ records.testsEnd s n at
+  pub ends-same : (n at : ℕ) → instructions.testsEnd s n at ≡ records.testsEnd s n at
   unfolding instructions.testsEnd records.testsEnd
   ends-same zero at = refl
   ends-same (suc n) at = ends-same n (endOf s at)
@@ -142,7 +142,7 @@ module _ (sheet store : List ℕ) (bytes : (i : ℕ) → getD sheet i 0 < 256) (
     unfolding row words
     word-place = let z : a * 8 ≡ a * 8 + 0 = omega arith in ap (λ (j : ℕ). getD prog j 0) z ∙ word 0 (omega arith)
 
-    word-first : rowWord prog a 1 ≡ i .says .firstTest
+    pub word-first : rowWord prog a 1 ≡ i .says .firstTest
     unfolding row words
     word-first = word 1 (omega arith)
 

@@ -6,7 +6,7 @@ use Prim.Native.Nat.{ℕ, zero, suc, _+_, _<_, _≤_}
 use native.Mathlib.Omega.{arith}
 use lib.ListN.{length, length-append}
 use Rattle.sheet.specs.Parser.{nodeCount}
-use Rattle.meaning.specs.Lists.{keep, minus}
+use Rattle.meaning.specs.Lists.{_∈_, Distinct, keep, minus}
 use Rattle.meaning.specs.Document.{child, descendant, start, after, inside, spot}
 use Rattle.meaning.specs.Match.{Way, TreeShaped}
 use Rattle.meaning.specs.Elements.{Where, Name, same-name, Tag, Given, Element, element}
@@ -15,15 +15,17 @@ use Rattle.meaning.specs.Machine.{Stack, Machine, Scan, done, stuck, times-of, 
 use Rattle.meaning.specs.Demand.{Moment, address-holds}
 use Rattle.meaning.specs.Names.{times-count}
 use Rattle.meaning.specs.Carrying.{bearers}
+use Rattle.meaning.specs.Once.{live-once}
 use Rattle.meaning.specs.Answering.{hits-of, live-of, stack-of, carried-bearers, live-carried, finished, begin-hits, Stood, at-rest, held, said, step-said}
 use Rattle.meaning.specs.Bounds.{live-few, hits-few, bearers-few}
 use Rattle.demand.specs.Sheets.{Lent}
 use Rattle.demand.specs.Statement.{refusing}
-use Rattle.demand.specs.Rows.{Compiled, rowsProgram, rootsOf, hungOf}
+use Rattle.demand.specs.Rows.{testBytes, Compiled, rowsProgram, rootsOf, hungOf}
 use Rattle.demand.specs.Bridging.{P, Fit, FitScan, Times, Room, Rooms}
 
 module _ (C : Compiled) (esi : Bool) (trees : TreeShaped (rootsOf (C .sheet) (C .program)) (hungOf (C .sheet) (C .program)))
-    (below : (a : ℕ) → Way (rootsOf (C .sheet) (C .program)) (hungOf (C .sheet) (C .program)) a → a < nodeCount (C .sheet)) where
+    (below : (a : ℕ) → Way (rootsOf (C .sheet) (C .program)) (hungOf (C .sheet) (C .program)) a → a < nodeCount (C .sheet))
+    (light : (xs : List ℕ) → Distinct xs → ((x : ℕ) → x ∈ xs → x < nodeCount (C .sheet)) → testBytes (C .sheet) (C .program) xs ≤ length (C .sheet)) where
   times-few : (c : Where Lent) → Times C esi (stack-of (rowsProgram C) c)
   times-few start x = omega arith
   times-few (after c e) x = go (times-few c x) (C .types) (same-name x (e .tag .name)) refl
@@ -43,6 +45,11 @@ module _ (C : Compiled) (esi : Bool) (trees : TreeShaped (rootsOf (C .sheet) (C 
       let m = C .few in
       rw q (a, omega arith)
 
+  live-light : (c : Where Lent) → testBytes (C .sheet) (C .program) (live-at (rowsProgram C) (stack-of (rowsProgram C) c)) ≤ length (C .sheet)
+  live-light c =
+      let s = live-once (rootsOf (C .sheet) (C .program)) (hungOf (C .sheet) (C .program)) trees (address-holds (rowsProgram C)) c in
+      rw (live-carried (rowsProgram C) c) (light (live-of (rowsProgram C) c) (s .0) (λ x m. below x (s .1 x m)))
+
   module _ (ghost : Where Lent → Tag → Given Lent) where
     scan-fits : (c : Where Lent) (t : Tag) (sc : Scan) → finished (rowsProgram C) (stack-of (rowsProgram C) c) t (ghost c t .attributes) sc ≡ hits-of (rowsProgram C) (spot c (element t (ghost c t))) → FitScan C esi (stack-of (rowsProgram C) c) sc
     scan-fits c t (done found) e = fit c (element t (ghost c t)) found e
@@ -50,7 +57,7 @@ module _ (C : Compiled) (esi : Bool) (trees : TreeShaped (rootsOf (C .sheet) (C 
 
     room-at : (m : Machine (List ℕ)) (w : Moment Lent) → Stood (rowsProgram C) refusing ghost m w → (x : Call Lent) → Room C esi m x
     room-at m w (at-rest c) (start-tag t) =
-        (times-few c, rw (live-carried (rowsProgram C) c) (live-few (rowsProgram C) trees (nodeCount (C .sheet)) below c), scan-fits c t (begin (rowsProgram C) (stack-of (rowsProgram C) c) t) (begin-hits (rowsProgram C) refusing ghost c t (ghost c t)))
+        (times-few c, rw (live-carried (rowsProgram C) c) (live-few (rowsProgram C) trees (nodeCount (C .sheet)) below c), live-light c, scan-fits c t (begin (rowsProgram C) (stack-of (rowsProgram C) c) t) (begin-hits (rowsProgram C) refusing ghost c t (ghost c t)))
     room-at m w (at-rest c) (attributes g) = tt
     room-at m w (at-rest c) (end-tag x r) = tt
     room-at m w (at-rest c) ids-asked = tt

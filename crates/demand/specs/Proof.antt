@@ -19,7 +19,7 @@ use Rattle.stack.specs.Stores.{Stores, stores, rowsSize, namesSize, idsSize, no
 use Rattle.weighing.specs.Weighing.{madeMark, sized}
 use Rattle.machine.specs.declared.Made.{Made}
 use Rattle.machine.specs.Calls.{Fresh, fresh, flagsOf, freshOf, freshCall}
-use Rattle.meaning.specs.Lists.{_∈_, here, there}
+use Rattle.meaning.specs.Lists.{_∈_, here, there, Distinct}
 use Rattle.meaning.specs.Document.{start}
 use Rattle.meaning.specs.Trees.{Forest, size}
 use Rattle.meaning.specs.Layout.{layout}
@@ -35,12 +35,13 @@ use Rattle.meaning.specs.Reading.{reads-shaped, reads-carries}
 use Rattle.meaning.specs.Proof.{demand-3}
 use Rattle.demand.specs.Sheets.{Lent, lentTests, sheetProgram}
 use Rattle.demand.specs.Statement.{refusing, HostCall, callOf, answers, madeIn, Demand-3-on-bytes}
-use Rattle.demand.specs.Rows.{Compiled, rowsProgram, rootsOf, hungOf}
+use Rattle.demand.specs.Rows.{testBytes, Compiled, rowsProgram, rootsOf, hungOf}
 use Rattle.demand.specs.Decode.{stackOf, decode}
 use Rattle.demand.specs.Moving as moving
 use Rattle.demand.specs.Bridging as bridging
 use Rattle.demand.specs.Fitting.{rooms}
 use Rattle.demand.specs.Compiling.{made, made-reads}
+use Rattle.demand.specs.Weighing.{few-bytes}
 use Rattle.demand.specs.Turning.{goes-turn}
 
 -- ---- no refusal is 30 or more
@@ -145,7 +146,8 @@ module _ (sheet : List ℕ) (bytes : (i : ℕ) → getD sheet i 0 < 256) (f : Fo
         let d : decode sheet (sets program 0 (rows (layout 0 f))) after ≡ Machine.ready empty = bridging.at-rest C esi after z ∙ ap Machine.ready (moving.fresh-stack C esi s fr fn fi fk) in
         let reads = made-reads sheet program bytes f good room in
         let below : (a : ℕ) → Way (rootsOf (C .sheet) (C .program)) (hungOf (C .sheet) (C .program)) a → a < nodeCount sheet = λ a way. let k = way-below f (rowsProgram C .roots) (rowsProgram C .hung) (reads .roots) (reads .hung) a way in let n = good .nodes in omega arith in
-        let fits = rooms C esi (reads-shaped lentTests f (rowsProgram C) reads) below ghost (Machine.ready empty) (idle start) (at-rest start) (map (callOf esi) xs) in
+        let light : (xs : List ℕ) → Distinct xs → ((x : ℕ) → x ∈ xs → x < nodeCount sheet) → testBytes sheet (C .program) xs ≤ length sheet = λ xs d h. few-bytes sheet program bytes f good room xs d (λ x m. let k = h x m in let n = good .nodes in omega arith) in
+        let fits = rooms C esi (reads-shaped lentTests f (rowsProgram C) reads) below light ghost (Machine.ready empty) (idle start) (at-rest start) (map (callOf esi) xs) in
         bridging.run-met C esi after (bridging.rest-fine C esi after g h z) xs (subst (λ m. bridging.Rooms C esi m (map (callOf esi) xs)) (sym d) fits)
         ∙ ap (λ m. run (rowsProgram C) refusing m (map (callOf esi) xs)) d
 

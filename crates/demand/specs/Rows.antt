@@ -1,17 +1,18 @@
 -- The program that rows in a store hold: what a call reads there, at any address whatever, as `meaning` speaks of programs.
 use mathlib.Core.Path.{_≡_, refl}
 use mathlib.Core.Bool.{Bool, true, false}
-use mathlib.Core.List.{List, [], _∷_}
-use Prim.Native.Nat.{ℕ, _*_, _≤_}
+use mathlib.Core.List.{List, [], _∷_, map}
+use Prim.Native.Nat.{ℕ, _+_, _-_, _*_, _≤_}
 use borrow.Author.Tests.{eqb-true, not-false}
 use lib.ListN.{length}
 use Rattle.rules.specs.Names.{nameKey}
 use Rattle.rules.specs.Attributes.{attributesOf}
 use Rattle.sheet.specs.Parser.{nodeCount, rootCount}
 use Rattle.cells.specs.Ids.{idsOf}
-use Rattle.exec.specs.Cursors.{hangs}
-use Rattle.exec.specs.Instructions.{attributeCount, attributeTestsHold, tagPasses, attributePasses, asks}
+use Rattle.exec.specs.Cursors.{rowWord, hangs}
+use Rattle.exec.specs.Instructions.{testsEnd, tagCount, attributeCount, attributeTestsHold, tagPasses, attributePasses, asks}
 use Rattle.exec.specs.FoundIds.{withIdsOf}
+use Rattle.meaning.specs.Lists.{sum}
 use Rattle.meaning.specs.Document.{Link, child, descendant}
 use Rattle.meaning.specs.Match.{Way}
 use Rattle.meaning.specs.Elements.{Tag, html}
@@ -37,6 +38,13 @@ module _ (sheet program : List ℕ) where
   pub untested : (a : ℕ) → asks program a ≡ false → (t : Tag) (g : Lent) → attributeTestsOf a t g ≡ true
   unfolding attributePasses attributeTestsHold asks
   untested a e t g = let z : attributeCount program a ≡ 0 = eqb-true _ _ (not-false _ e) in rw z
+
+-- The bytes that the tests of instructions take.
+abbrev pub bytesAt : (sheet program : List ℕ) → ℕ → ℕ
+bytesAt sheet program a = testsEnd sheet (tagCount program a + attributeCount program a) (rowWord program a 1) - rowWord program a 1
+
+abbrev pub testBytes : (sheet program : List ℕ) → List ℕ → ℕ
+testBytes sheet program xs = sum (map (bytesAt sheet program) xs)
 
 -- A sheet, the rows lent with it, and whether types are counted; without that no test looks at the position among those of the name.
 pub record Compiled : Type 0 where

@@ -30,7 +30,7 @@ use Rattle.meaning.specs.Elements.{Tag, html}
 use Rattle.meaning.specs.Machine.{Stack, Scan, done, stuck, found-too, visit, scan, times-of, live-at, number, number-of-name, tag-passes, passes, scan-if}
 use Rattle.meaning.specs.Machine as meaning
 use Rattle.demand.specs.Sheets.{Lent}
-use Rattle.demand.specs.Rows.{Compiled, rowsProgram}
+use Rattle.demand.specs.Rows.{bytesAt, testBytes, Compiled, rowsProgram}
 use Rattle.demand.specs.Decode.{hd, view, pairsAt, levelAt, stackOf, heldTag, restOf, tidy-km, tidy-pm}
 use Rattle.demand.specs.Reading.{times-top, live-all}
 use Rattle.demand.specs.Counting.{Good}
@@ -76,30 +76,33 @@ all-first program nodes m slot roots h a b c d =
     (all-cat (rides program nodes (m .limit) 3 0 slot (m .«parents_top» - slot)) _ (all-rides program nodes (m .limit) 3 0 slot (m .«parents_top» - slot) h (omega arith))
     (all-rides program nodes (m .limit) 5 1 (m .«ancestors_from») (m .«ancestors_top» - m .«ancestors_from») h (omega arith)))
 
--- ---- where a scan stops: a small cursor, and what was found and what is left are at most what was live
-module _ (program nodes : List ℕ) (m : Ranges) where
-  abbrev pub Stop : ℕ → Sought → Type 0
-  Stop n (over found) = length found ≤ n
-  Stop n (stopped found c) = Small c × (length found + length (rest program nodes m c) ≤ n)
+-- ---- where a scan stops: a small cursor; what was found and what is left are at most what was live, and so are the bytes of its tests
+module _ (sheet program nodes : List ℕ) (m : Ranges) where
+  abbrev pub Stop : ℕ → ℕ → Sought → Type 0
+  Stop n b (over found) = length found ≤ n
+  Stop n b (stopped found c) = Small c × (length found + length (rest program nodes m c) ≤ n) × (testBytes sheet program (ats (rest program nodes m c)) ≤ b)
 
-  pub stop-more : (n k : ℕ) (s : Sought) → n ≤ k → Stop n s → Stop k s
-  stop-more n k (over found) l h = omega arith
-  stop-more n k (stopped found c) l (a, h) = (a, omega arith)
+  pub stop-more : (n k a b : ℕ) (s : Sought) → n ≤ k → a ≤ b → Stop n a s → Stop k b s
+  stop-more n k a b (over found) l r h = omega arith
+  stop-more n k a b (stopped found c) l r (x, h, y) = (x, omega arith, omega arith)
 
-  stop-found : (n a : ℕ) (s : Sought) → Stop n s → Stop (suc n) (foundToo a s)
+  stop-found : (n b a : ℕ) (s : Sought) → Stop n b s → Stop (suc n) b (foundToo a s)
   unfolding foundToo
-  stop-found n a (over found) h = omega arith
-  stop-found n a (stopped found c) (b, h) = (b, omega arith)
+  stop-found n b a (over found) h = omega arith
+  stop-found n b a (stopped found c) (x, h, y) = (x, omega arith, y)
 
-  pub seek-stop : (p q : ℕ → Bool) (cs : List Cursor) → Own program nodes m cs → AllSmall cs → Stop (length cs) (seek p q cs)
+  pub seek-stop : (p q : ℕ → Bool) (cs : List Cursor) → Own program nodes m cs → AllSmall cs → Stop (length cs) (testBytes sheet program (ats cs)) (seek p q cs)
   unfolding seek
   seek-stop p q [] o a = omega arith
   seek-stop p q (c ∷ cs) (e, o) (a, as′) = go (p (c .at)) (q (c .at)) (seek-stop p q cs o as′)
     where
-      go : (x y : Bool) → Stop (length cs) (seek p q cs) → Stop (suc (length cs)) (cond x (cond y (stopped [] c) (foundToo (c .at) (seek p q cs))) (seek p q cs))
-      go true true h = let k = ap length e in (a, omega arith)
-      go true false h = stop-found (length cs) (c .at) (seek p q cs) h
-      go false y h = stop-more (length cs) (suc (length cs)) (seek p q cs) (omega arith) h
+      go : (x y : Bool) → Stop (length cs) (testBytes sheet program (ats cs)) (seek p q cs)
+          → Stop (suc (length cs)) (bytesAt sheet program (c .at) + testBytes sheet program (ats cs)) (cond x (cond y (stopped [] c) (foundToo (c .at) (seek p q cs))) (seek p q cs))
+      go true true h = let k = ap length e in let l = ap (λ z. testBytes sheet program (ats z)) e in (a, omega arith, omega arith)
+      go true false h =
+          stop-more (suc (length cs)) (suc (length cs)) (testBytes sheet program (ats cs)) (bytesAt sheet program (c .at) + testBytes sheet program (ats cs)) (foundToo (c .at) (seek p q cs)) (omega arith) (omega arith)
+          (stop-found (length cs) (testBytes sheet program (ats cs)) (c .at) (seek p q cs) h)
+      go false y h = stop-more (length cs) (suc (length cs)) (testBytes sheet program (ats cs)) (bytesAt sheet program (c .at) + testBytes sheet program (ats cs)) (seek p q cs) (omega arith) (omega arith) h
 
 keeps : (p : ℕ → Bool) (xs : List ℕ) → scans.keep p xs ≡ keep p xs
 unfolding scans.keep
@@ -175,7 +178,7 @@ module _ (C : Compiled) (esi : Bool) (s : Stores) (g : Good (C .types) s) (h : H
   abbrev first : Cursor
   first = firstLive sheet (s .rows)
 
-  module _ (fits : length (live-at (rowsProgram C) (stackOf s)) ≤ nodeCount sheet) where
+  module _ (fits : length (live-at (rowsProgram C) (stackOf s)) ≤ nodeCount sheet) (light : testBytes sheet program (live-at (rowsProgram C) (stackOf s)) ≤ length sheet) where
     slot-low : rowWord (s .rows) (hd s 0) 2 ≤ hd s 1
     slot-low = tidy-km (view s) (hd s 0) (hd s 1) (hd s 2) (hd s 3) (g .tidy)
 
@@ -188,23 +191,26 @@ module _ (C : Compiled) (esi : Bool) (s : Stores) (g : Good (C .types) s) (h : H
     rest-fits : length (restOf sheet program s first) ≤ nodeCount sheet
     rest-fits = let e = length-ats (restOf sheet program s first) in let k = ap length (live-all C s (g .tidy)) in omega arith
 
+    rest-light : testBytes sheet program (ats (restOf sheet program s first)) ≤ length sheet
+    rest-light = let k = ap (testBytes sheet program) (live-all C s (g .tidy)) in omega arith
+
     module _ (x : List ℕ) (kind : ℕ) where
       scan-all : tagScan sheet program (s .nodes) (liveRanges sheet (s .rows)) x (nameKey x) (childPosition (s .rows)) (typePosition (s .rows) (s .names) x) first (nodeCount sheet)
           ≡ seek (tagPasses sheet program x (nameKey x) (childPosition (s .rows)) (typePosition (s .rows) (s .names) x)) (asks program) (restOf sheet program s first)
       scan-all = tag-scan-all sheet program (s .nodes) (liveRanges sheet (s .rows)) x (nameKey x) (childPosition (s .rows)) (typePosition (s .rows) (s .names) x) true [] first (nodeCount sheet) rest-fits
 
       -- The first scan stops in good order.
-      pub begin-stop : Stop program (s .nodes) (liveRanges sheet (s .rows)) (nodeCount sheet) (calls.begin sheet program (s .rows) (s .names) (s .nodes) x kind)
+      pub begin-stop : Stop sheet program (s .nodes) (liveRanges sheet (s .rows)) (nodeCount sheet) (length sheet) (calls.begin sheet program (s .rows) (s .names) (s .nodes) x kind)
       unfolding begin firstCursor
       begin-stop = go (isHtml kind)
         where
-          go : (b : Bool) → Stop program (s .nodes) (liveRanges sheet (s .rows)) (nodeCount sheet) (cond b (tagScan sheet program (s .nodes) (liveRanges sheet (s .rows)) x (nameKey x) (childPosition (s .rows)) (typePosition (s .rows) (s .names) x) first (nodeCount sheet)) (stopped [] first))
+          go : (b : Bool) → Stop sheet program (s .nodes) (liveRanges sheet (s .rows)) (nodeCount sheet) (length sheet) (cond b (tagScan sheet program (s .nodes) (liveRanges sheet (s .rows)) x (nameKey x) (childPosition (s .rows)) (typePosition (s .rows) (s .names) x) first (nodeCount sheet)) (stopped [] first))
           go true =
               let p = tagPasses sheet program x (nameKey x) (childPosition (s .rows)) (typePosition (s .rows) (s .names) x) in
-              subst (Stop program (s .nodes) (liveRanges sheet (s .rows)) (nodeCount sheet)) (sym scan-all)
-              (stop-more program (s .nodes) (liveRanges sheet (s .rows)) (length (restOf sheet program s first)) (nodeCount sheet) (seek p (asks program) (restOf sheet program s first)) rest-fits
-              (seek-stop program (s .nodes) (liveRanges sheet (s .rows)) p (asks program) (restOf sheet program s first) own all-small))
-          go false = let r = rest-fits in let l = slot-low in let a = C .roots-fit in let b = C .few in let c = g .kt in ((omega arith, omega arith, omega arith), omega arith)
+              subst (Stop sheet program (s .nodes) (liveRanges sheet (s .rows)) (nodeCount sheet) (length sheet)) (sym scan-all)
+              (stop-more sheet program (s .nodes) (liveRanges sheet (s .rows)) (length (restOf sheet program s first)) (nodeCount sheet) (testBytes sheet program (ats (restOf sheet program s first))) (length sheet) (seek p (asks program) (restOf sheet program s first)) rest-fits rest-light
+              (seek-stop sheet program (s .nodes) (liveRanges sheet (s .rows)) p (asks program) (restOf sheet program s first) own all-small))
+          go false = let r = rest-fits in let y = rest-light in let l = slot-low in let a = C .roots-fit in let b = C .few in let c = g .kt in ((omega arith, omega arith, omega arith), omega arith, y)
 
       module _ (few : stackOf s .top .children < countLimit) (rare : times-of x (stackOf s .top .types) < countLimit) where
         -- It is the machine's.

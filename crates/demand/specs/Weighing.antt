@@ -1,17 +1,17 @@
--- The tests of distinct nodes are in sum at most a quarter of the sheet's bytes: each takes four at least.
-use mathlib.Core.Path.{_≡_, refl, sym, _∙_, ap, ap₂, subst}
+-- The tests of distinct nodes take in sum no more bytes than the sheet has, and are at most a quarter as many.
+use mathlib.Core.Path.{_≡_, refl, sym, _∙_, ap, ap₂}
 use mathlib.Core.Option.{some}
 use mathlib.Core.Bool.{Bool, true, false, not}
 use mathlib.Core.List.{List, [], _∷_, _++_, map}
 use Prim.Native.Nat.{ℕ, zero, suc, _+_, _-_, _*_, _/_, _<_, _≤_}
 use native.Mathlib.Omega.{arith}
-use native.Mathlib.Numerals.{add-one}
 use lib.ListN.{length, getD, length-map}
-use lib.Dec.{T, eqb, eqb→eq}
+use lib.Dec.{T, eqb}
 use borrow.Author.Tests.{eq-eqb, eqb-true}
 use Rattle.rules.specs.Tests.{readTagTest, readAttributeTest}
 use Rattle.sheet.specs.Records.{NodeRecord, recordAt, endOf, tagCount, attributeCount, testsAt, testsEnd, testsFrom}
 use Rattle.sheet.specs.Spelling.{TestsInside, Inside, Spells, Sheet}
+use Rattle.exec.specs.Cursors.{rowWord}
 use Rattle.exec.specs.Instructions as instructions
 use Rattle.meaning.specs.Lists.{_∈_, here, there, Distinct, keep, put-if, sum}
 use Rattle.meaning.specs.ListLaws.{mem-keep}
@@ -19,7 +19,7 @@ use Rattle.meaning.specs.Document.{child, descendant}
 use Rattle.meaning.specs.Trees.{Forest, end, tree, width, size}
 use Rattle.meaning.specs.Layout.{Instruction, begins, ends, block, below, layout, fetch, length-layout}
 use Rattle.meaning.specs.Spans.{span, span-mem}
-use Rattle.demand.specs.Compiling.{length-tests, prog, tags-many, attributes-many, tag-count, attribute-count}
+use Rattle.demand.specs.Compiling.{length-tests, ends-same, prog, word-first, tags-many, attributes-many, tag-count, attribute-count}
 
 -- ---- weights of numbers, each counted once
 module _ (w : ℕ → ℕ) where
@@ -56,25 +56,68 @@ module _ (w : ℕ → ℕ) where
       let b = weight-without x ys (h x (here refl)) in
       omega arith
 
--- ---- the tests of a forest
+-- ---- weights of nodes, each at most as heavy as its record is long
+module _ (w : NodeRecord → ℕ) where
+  unfoldable weightIn : Forest NodeRecord → ℕ
+  weightIn end = 0
+  weightIn (tree node k f) = w node + weightIn (k child) + weightIn (k descendant) + weightIn f
+
+  abbrev total : List (Instruction NodeRecord) → ℕ
+  total xs = sum (map (λ i. w (i .says)) xs)
+
+  total-cat : (xs ys : List (Instruction NodeRecord)) → total (xs ++ ys) ≡ total xs + total ys
+  total-cat [] ys = omega arith
+  total-cat (x ∷ xs) ys = let h = total-cat xs ys in omega arith
+
+  total-below : (m : ℕ) (f : Forest NodeRecord) → total (block m f) + total (below m f) ≡ weightIn f
+  unfolding below weightIn
+  total-below m end = refl
+  total-below m (tree node k f) =
+      let m₁ = begins m k child + width (k child) in
+      let m₂ = begins m k descendant + width (k descendant) in
+      let a = total-below m₁ (k child) in
+      let b = total-below m₂ (k descendant) in
+      let c = total-below (ends m k) f in
+      let x = total-cat (block m₁ (k child)) (below m₁ (k child)) in
+      let y = total-cat (block m₂ (k descendant)) (below m₂ (k descendant)) in
+      let z = total-cat (block m₂ (k descendant) ++ below m₂ (k descendant)) (below (ends m k) f) in
+      let v = total-cat (block m₁ (k child) ++ below m₁ (k child)) ((block m₂ (k descendant) ++ below m₂ (k descendant)) ++ below (ends m k) f) in
+      omega arith
+
+  total-layout : (f : Forest NodeRecord) → total (layout 0 f) ≡ weightIn f
+  total-layout f = total-cat (block (0 + width f) f) (below (0 + width f) f) ∙ total-below (0 + width f) f
+
+  total-span : (v : ℕ → ℕ) (xs : List (Instruction NodeRecord)) (b : ℕ) → ((a : ℕ) (i : Instruction NodeRecord) → fetch xs a ≡ some i → v (b + a) ≡ w (i .says)) → sum (map v (span b (length xs))) ≡ total xs
+  total-span v [] b h = refl
+  total-span v (x ∷ xs) b h =
+      let z : b + 0 ≡ b = omega arith in
+      let e : v b ≡ w (x .says) = ap v (sym z) ∙ h 0 x refl in
+      ap₂ (λ (u v : ℕ). u + v) e (total-span v xs (suc b) (λ a i q. let y : suc b + a ≡ b + suc a = omega arith in ap v y ∙ h (suc a) i q))
+
+  module _ (s : List ℕ) (light : (at : ℕ) (node : NodeRecord) → node ≡ recordAt s at → Inside s at → at + w node ≤ endOf s at) where
+    spelt-weight : {depth n at m : ℕ} {f : Forest NodeRecord} → Spells s depth n at f m → at + weightIn f ≤ m
+    unfolding weightIn
+    spelt-weight (Spells.none a b) = omega arith
+    spelt-weight {at = at} (Spells.more {node = node} p q hn hd e i c d t) =
+        let a = light at node e i in
+        let x = spelt-weight c in
+        let y = spelt-weight d in
+        let z = spelt-weight t in
+        omega arith
+
+    -- Distinct nodes weigh together no more than the sheet is long.
+    sheet-weight : (f : Forest NodeRecord) → Sheet s f → (v : ℕ → ℕ) → ((a : ℕ) (i : Instruction NodeRecord) → fetch (layout 0 f) a ≡ some i → v a ≡ w (i .says)) → (xs : List ℕ) → Distinct xs → ((x : ℕ) → x ∈ xs → x < size f) → sum (map v xs) ≤ length s
+    sheet-weight f good v same xs d h =
+        let l = length-layout 0 f in
+        let a = weight-within v xs (span 0 (length (layout 0 f))) d (λ x m. let k = h x m in span-mem 0 (length (layout 0 f)) x (omega arith) (omega arith)) in
+        let b = total-span v (layout 0 f) 0 (λ a i e. let z : 0 + a ≡ a = omega arith in ap v z ∙ same a i e) in
+        let c = total-layout f in
+        let e = spelt-weight (good .spelt) in
+        omega arith
+
+-- ---- tests, and their bytes
 abbrev testsOf : NodeRecord → ℕ
 testsOf node = length (node .tagTests) + length (node .attributeTests)
-
-unfoldable testsIn : Forest NodeRecord → ℕ
-testsIn end = 0
-testsIn (tree node k f) = testsOf node + testsIn (k child) + testsIn (k descendant) + testsIn f
-
-tests-long : (s : List ℕ) (stop n at : ℕ) → TestsInside s stop n at → at + 4 * n ≤ testsEnd s n at
-unfolding TestsInside testsEnd
-tests-long s stop zero at t = omega arith
-tests-long s stop (suc n) at (a, (b, t)) = let h = tests-long s stop n (endOf s at) t in omega arith
-
-record-long : (s : List ℕ) (at : ℕ) → Inside s at → at + 4 * (tagCount s at + attributeCount s at) ≤ endOf s at
-record-long s at i =
-    let a = tests-long s (endOf s at) (tagCount s at) (testsAt s at) (i .tags) in
-    let b = tests-long s (endOf s at) (attributeCount s at) (testsEnd s (tagCount s at) (testsAt s at)) (i .attributes) in
-    let c = i .whole in
-    omega arith
 
 record-tests : (s : List ℕ) (at : ℕ) (node : NodeRecord) → node ≡ recordAt s at → testsOf node ≡ tagCount s at + attributeCount s at
 unfolding recordAt
@@ -83,63 +126,62 @@ record-tests s at node e =
     ∙ ap₂ (λ (x y : ℕ). x + y) (length-map (testsFrom s (tagCount s at) (testsAt s at)) readTagTest ∙ length-tests s (tagCount s at) (testsAt s at))
     (length-map (testsFrom s (attributeCount s at) (testsEnd s (tagCount s at) (testsAt s at))) readAttributeTest ∙ length-tests s (attributeCount s at) (testsEnd s (tagCount s at) (testsAt s at)))
 
-spelt-tests : {s : List ℕ} {depth n at m : ℕ} {f : Forest NodeRecord} → Spells s depth n at f m → at + 4 * testsIn f ≤ m
-unfolding testsIn
-spelt-tests (Spells.none a b) = omega arith
-spelt-tests {s} {at = at} (Spells.more {node = node} p q hn hd e i c d t) =
-    let a = record-long s at i in
-    let b = record-tests s at node e in
-    let x = spelt-tests c in
-    let y = spelt-tests d in
-    let z = spelt-tests t in
+record-first : (s : List ℕ) (at : ℕ) (node : NodeRecord) → node ≡ recordAt s at → node .firstTest ≡ testsAt s at
+unfolding recordAt
+record-first s at node e = ap (λ (n : NodeRecord). n .firstTest) e
+
+tests-long : (s : List ℕ) (stop n at : ℕ) → TestsInside s stop n at → at + 4 * n ≤ testsEnd s n at
+unfolding TestsInside testsEnd
+tests-long s stop zero at t = omega arith
+tests-long s stop (suc n) at (a, (b, t)) = let h = tests-long s stop n (endOf s at) t in omega arith
+
+tests-after : (s : List ℕ) (n m at : ℕ) → testsEnd s (n + m) at ≡ testsEnd s m (testsEnd s n at)
+unfolding testsEnd
+tests-after s zero m at = let z : 0 + m ≡ m = omega arith in rw z
+tests-after s (suc n) m at = let z : suc n + m ≡ suc (n + m) = omega arith in rw z (tests-after s n m (endOf s at))
+
+four-light : (s : List ℕ) (at : ℕ) (node : NodeRecord) → node ≡ recordAt s at → Inside s at → at + 4 * testsOf node ≤ endOf s at
+four-light s at node e i =
+    let a = tests-long s (endOf s at) (tagCount s at) (testsAt s at) (i .tags) in
+    let b = tests-long s (endOf s at) (attributeCount s at) (testsEnd s (tagCount s at) (testsAt s at)) (i .attributes) in
+    let c = i .whole in
+    let d = record-tests s at node e in
     omega arith
 
--- ---- and of its layout
-abbrev total : List (Instruction NodeRecord) → ℕ
-total xs = sum (map (λ i. testsOf (i .says)) xs)
+-- The bytes that a node's tests take.
+abbrev bytesOf : List ℕ → NodeRecord → ℕ
+bytesOf s node = testsEnd s (testsOf node) (node .firstTest) - node .firstTest
 
-total-cat : (xs ys : List (Instruction NodeRecord)) → total (xs ++ ys) ≡ total xs + total ys
-total-cat [] ys = omega arith
-total-cat (x ∷ xs) ys = let h = total-cat xs ys in omega arith
-
-total-below : (m : ℕ) (f : Forest NodeRecord) → total (block m f) + total (below m f) ≡ testsIn f
-unfolding below testsIn
-total-below m end = refl
-total-below m (tree node k f) =
-    let m₁ = begins m k child + width (k child) in
-    let m₂ = begins m k descendant + width (k descendant) in
-    let a = total-below m₁ (k child) in
-    let b = total-below m₂ (k descendant) in
-    let c = total-below (ends m k) f in
-    let x = total-cat (block m₁ (k child)) (below m₁ (k child)) in
-    let y = total-cat (block m₂ (k descendant)) (below m₂ (k descendant)) in
-    let z = total-cat (block m₂ (k descendant) ++ below m₂ (k descendant)) (below (ends m k) f) in
-    let v = total-cat (block m₁ (k child) ++ below m₁ (k child)) ((block m₂ (k descendant) ++ below m₂ (k descendant)) ++ below (ends m k) f) in
+bytes-light : (s : List ℕ) (at : ℕ) (node : NodeRecord) → node ≡ recordAt s at → Inside s at → at + bytesOf s node ≤ endOf s at
+bytes-light s at node e i =
+    let d : testsEnd s (testsOf node) (node .firstTest) ≡ endOf s at = (λ z. testsEnd s (record-tests s at node e z) (record-first s at node e z)) ∙ tests-after s (tagCount s at) (attributeCount s at) (testsAt s at) ∙ i .whole in
+    let f = record-first s at node e in
+    let n = i .numbers in
     omega arith
 
-total-layout : (f : Forest NodeRecord) → total (layout 0 f) ≡ testsIn f
-total-layout f = total-cat (block (0 + width f) f) (below (0 + width f) f) ∙ total-below (0 + width f) f
+sum-four : (v : ℕ → ℕ) (xs : List ℕ) → sum (map (λ a. 4 * v a) xs) ≡ 4 * sum (map v xs)
+sum-four v [] = refl
+sum-four v (x ∷ xs) = let h = sum-four v xs in omega arith
 
-total-span : (w : ℕ → ℕ) (xs : List (Instruction NodeRecord)) (b : ℕ) → ((a : ℕ) (i : Instruction NodeRecord) → fetch xs a ≡ some i → w (b + a) ≡ testsOf (i .says)) → sum (map w (span b (length xs))) ≡ total xs
-total-span w [] b h = refl
-total-span w (x ∷ xs) b h =
-    let z : b + 0 ≡ b = omega arith in
-    let e : w b ≡ testsOf (x .says) = ap w (sym z) ∙ h 0 x refl in
-    ap₂ (λ (u v : ℕ). u + v) e (total-span w xs (suc b) (λ a i q. let y : suc b + a ≡ b + suc a = omega arith in ap w y ∙ h (suc a) i q))
-
--- THE BUDGET OF TESTS: distinct nodes have in sum at most a quarter as many tests as the sheet has bytes.
 module _ (sheet store : List ℕ) (bytes : (i : ℕ) → getD sheet i 0 < 256) (f : Forest NodeRecord) (good : Sheet sheet f) (room : size f ≤ length store / 8) where
-  -- How many tests an instruction has.
-  abbrev pub testCount : ℕ → ℕ
-  testCount a = instructions.tagCount (prog sheet store bytes f good room) a + instructions.attributeCount (prog sheet store bytes f good room) a
+  abbrev rows : List ℕ
+  rows = prog sheet store bytes f good room
 
-  pub few-tests : (xs : List ℕ) → Distinct xs → ((x : ℕ) → x ∈ xs → x < size f) → sum (map testCount xs) ≤ length sheet / 4
+  count-is : (a : ℕ) (i : Instruction NodeRecord) → fetch (layout 0 f) a ≡ some i → instructions.tagCount rows a + instructions.attributeCount rows a ≡ testsOf (i .says)
+  count-is a i e = ap₂ (λ (x y : ℕ). x + y) (tag-count sheet store bytes f good room a i e ∙ sym (tags-many sheet store bytes f good room a i e)) (attribute-count sheet store bytes f good room a i e ∙ sym (attributes-many sheet store bytes f good room a i e))
+
+  -- Distinct nodes have in sum at most a quarter as many tests as the sheet has bytes,
+  pub few-tests : (xs : List ℕ) → Distinct xs → ((x : ℕ) → x ∈ xs → x < size f) → sum (map (λ a. instructions.tagCount rows a + instructions.attributeCount rows a) xs) ≤ length sheet / 4
   few-tests xs d h =
-      let l = length-layout 0 f in
-      let a = weight-within testCount xs (span 0 (length (layout 0 f))) d (λ x m. let k = h x m in span-mem 0 (length (layout 0 f)) x (omega arith) (omega arith)) in
-      let b = total-span testCount (layout 0 f) 0 (λ a i e.
-      let z : 0 + a ≡ a = omega arith in
-      ap testCount z ∙ ap₂ (λ (x y : ℕ). x + y) (tag-count sheet store bytes f good room a i e ∙ sym (tags-many sheet store bytes f good room a i e)) (attribute-count sheet store bytes f good room a i e ∙ sym (attributes-many sheet store bytes f good room a i e))) in
-      let c = total-layout f in
-      let e = spelt-tests (good .spelt) in
+      let a = sheet-weight (λ node. 4 * testsOf node) sheet (four-light sheet) f good (λ a. 4 * (instructions.tagCount rows a + instructions.attributeCount rows a)) (λ a i e. ap (λ (n : ℕ). 4 * n) (count-is a i e)) xs d h in
+      let b = sum-four (λ a. instructions.tagCount rows a + instructions.attributeCount rows a) xs in
       omega arith
+
+  -- and their tests take no more bytes than it has.
+  pub few-bytes : (xs : List ℕ) → Distinct xs → ((x : ℕ) → x ∈ xs → x < size f)
+      → sum (map (λ a. instructions.testsEnd sheet (instructions.tagCount rows a + instructions.attributeCount rows a) (rowWord rows a 1) - rowWord rows a 1) xs) ≤ length sheet
+  few-bytes xs d h =
+      sheet-weight (bytesOf sheet) sheet (bytes-light sheet) f good (λ a. instructions.testsEnd sheet (instructions.tagCount rows a + instructions.attributeCount rows a) (rowWord rows a 1) - rowWord rows a 1)
+      (λ a i e.
+      ap (λ (n : ℕ). n - rowWord rows a 1) (ends-same sheet (instructions.tagCount rows a + instructions.attributeCount rows a) (rowWord rows a 1))
+      ∙ (λ z. testsEnd sheet (count-is a i e z) (word-first sheet store bytes f good room a i e z) - word-first sheet store bytes f good room a i e z)) xs d h
