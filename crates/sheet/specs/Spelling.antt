@@ -1,21 +1,24 @@
 -- What a good sheet spells: a forest, its records and tests inside the sheet.
 use Prim.Native.Nat.{ℕ, zero, suc, _+_, _-_, _≤_, _<_}
 use mathlib.Core.Path.{_≡_}
+use mathlib.Core.Bool.{true}
 use mathlib.Core.List.{List}
 use lib.ListN.{length}
+use Rattle.cells.specs.Numbers.{part}
 use Rattle.meaning.specs.Document.{Link, child, descendant}
 use Rattle.meaning.specs.Trees.{Forest, size}
-use Rattle.sheet.specs.Records.{NodeRecord, recordAt, endOf, tagCount, attributeCount, childCount, descendantCount, testsAt, testsEnd}
-use Rattle.sheet.specs.Parser.{nodeCount, rootCount}
+use Rattle.sheet.specs.Records.{NodeRecord, recordAt, endOf, countsAt, tagCount, attributeCount, childCount, descendantCount, testsAt, testsEnd}
+use Rattle.sheet.specs.Parser.{rising, nodeCount, rootCount}
 
 -- So many tests, each with room for kind and negation, end before the record does.
 unfoldable pub TestsInside : List ℕ → (end n at : ℕ) → Type 0
 TestsInside s end zero at = Unit
 TestsInside s end (suc n) at = (at + 4 ≤ endOf s at) × ((endOf s at ≤ end) × TestsInside s end n (endOf s at))
 
--- A record inside the sheet, its four numbers and its tests inside the record, no byte over.
+-- A record inside the sheet, its ids rising and at most 127, its four numbers and its tests inside the record, no byte over.
 pub record Inside (s : List ℕ) (at : ℕ) : Type 0 where
   pub ends : endOf s at ≤ length s
+  pub rises : rising 0 (part s (at + 3) (countsAt s at)) ≡ true
   pub numbers : testsAt s at ≤ endOf s at
   pub tags : TestsInside s (endOf s at) (tagCount s at) (testsAt s at)
   pub attributes : TestsInside s (endOf s at) (attributeCount s at) (testsEnd s (tagCount s at) (testsAt s at))

@@ -83,16 +83,16 @@ module _ (s : List ℕ) (at : ℕ) where
   record-told : (b : Bool) (w p : ℕ) (y : Step) → (b ≡ false → RecordOk y) → RecordOk (cond b (Step.Refused w p) y)
   record-told b w p y f = told RecordOk b (Step.Refused w p) y tt f
 
-  counts : endOf s at ≤ length s → RecordOk (checkCounts s at (endOf s at) (countsAt s at))
+  counts : endOf s at ≤ length s → rising 0 (part s (at + 3) (countsAt s at)) ≡ true → RecordOk (checkCounts s at (endOf s at) (countsAt s at))
   unfolding checkCounts
-  counts h =
+  counts h w =
       record-told (ltb (endOf s at) (countsAt s at + 2)) 8 at _ (λ a.
       record-told (eqb (tagCount s at + attributeCount s at) 0) 10 at _ (λ b.
       record-told (ltb (endOf s at) (testsAt s at)) 8 at _ (λ d.
       then-told RecordOk (TestsOk s (endOf s at) (tagCount s at) (testsAt s at)) (λ _ _. tt) (checkTests s at (endOf s at) false (tagCount s at) (testsAt s at)) _ (tests s (endOf s at) at false (tagCount s at) (testsAt s at)) (λ q t.
       then-told RecordOk (TestsOk s (endOf s at) (attributeCount s at) q) (λ _ _. tt) (checkTests s at (endOf s at) true (attributeCount s at) q) _ (tests s (endOf s at) at true (attributeCount s at) q) (λ last u.
       record-told (not (eqb last (endOf s at))) 8 at _ (λ e.
-      (refl, record { ends = h; numbers = ltb-false (endOf s at) (testsAt s at) d; tags = t .1; attributes = rw (t .0) at (u .1); whole = (sym (ap (testsEnd s (attributeCount s at)) (t .0)) ∙ (sym (u .0) ∙ eqb-true last (endOf s at) (not-false _ e))) })))))))
+      (refl, record { ends = h; rises = w; numbers = ltb-false (endOf s at) (testsAt s at) d; tags = t .1; attributes = rw (t .0) at (u .1); whole = (sym (ap (testsEnd s (attributeCount s at)) (t .0)) ∙ (sym (u .0) ∙ eqb-true last (endOf s at) (not-false _ e))) })))))))
 
   ids : endOf s at ≤ length s → RecordOk (checkIds s at (endOf s at))
   unfolding checkIds
@@ -100,7 +100,7 @@ module _ (s : List ℕ) (at : ℕ) where
       record-told (ltb (endOf s at) (at + 3)) 8 at _ (λ a.
       record-told (ltb (endOf s at) (countsAt s at)) 8 at _ (λ b.
       record-told (not (rising 0 (part s (at + 3) (countsAt s at)))) 9 at _ (λ d.
-      counts h)))
+      counts h (not-false _ d))))
 
   inside : RecordOk (checkRecord s at)
   unfolding checkRecord
