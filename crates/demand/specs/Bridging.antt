@@ -19,6 +19,8 @@ use Rattle.exec.specs.Scans.{Sought, over, stopped}
 use Rattle.stack.specs.Stores as stack
 use Rattle.stack.specs.Stores.{Stores, stores, openLimit, pairLimit, parentLimit, ancestorLimit, foundLimit, nameLimit, idWords, rowsSize, namesSize, idsSize, nodesSize, idsAt, rowWord, countLimit, counted, pushed, poppedCount, poppedRows, poppedIds, topIds, backTo, held, released, heldName, heldFound, heldKind}
 use Rattle.weighing.specs.Weighing.{madeMark, esiOn, typesCounted, sized, headerShaped, shaped, stateRefusal, badName, tagRefusal, pairsFull, pushRefusal, attributesRefusal, endRefusal}
+use Rattle.course.specs.Course as course
+use Rattle.tags.specs.Tags as tags
 use Rattle.machine.specs.Calls as calls
 use Rattle.machine.specs.declared.Popped.{Popped}
 use Rattle.machine.specs.declared.Top.{Top}
@@ -227,13 +229,13 @@ module _ (C : Compiled) (esi : Bool) where
 
   abbrev wholeIf : ℕ → (old s : Stores) → List ℕ → Bool → List ℕ → Outcome
   wholeIf zero old s x content found = accepted sheet program s x content found
-  wholeIf (suc r) old s x content found = calls.refusing (suc r) old
+  wholeIf (suc r) old s x content found = tags.refusing (suc r) old
 
   whole-is : (old s : Stores) (x : List ℕ) (content : Bool) (found : List ℕ) → whole sheet program old s x content found ≡ wholeIf (pushRefusal sheet program (s .rows) content found) old s x content found
   unfolding whole
   whole-is old s x content found = go (pushRefusal sheet program (s .rows) content found)
     where
-      go : (n : ℕ) → cond (not (eqb n 0)) (calls.refusing n old) (accepted sheet program s x content found) ≡ wholeIf n old s x content found
+      go : (n : ℕ) → cond (not (eqb n 0)) (tags.refusing n old) (accepted sheet program s x content found) ≡ wholeIf n old s x content found
       go zero = refl
       go (suc r) = rw (ne-eqb (suc r) 0 (λ z. omega arith))
 
@@ -337,8 +339,8 @@ module _ (C : Compiled) (esi : Bool) where
   gate-right s f n name = λ i. cond (bad-same name i) 20 (cond (ltb 2 n) 21 (cond (leb 2147483647 (rowWord (s .rows) (hd s 0) 1)) 25 (cond (pairs-full s f (map lowerOf name) i) 26 0)))
 
   abbrev startIf : ℕ → Stores → List ℕ → ℕ → Outcome
-  startIf zero s x kind = calls.begun sheet program s x kind (calls.begin sheet program (s .rows) (s .names) (s .nodes) x kind)
-  startIf (suc r) s x kind = calls.refusing (suc r) s
+  startIf zero s x kind = tags.begun sheet program s x kind (course.begin sheet program (s .rows) (s .names) (s .nodes) x kind)
+  startIf (suc r) s x kind = tags.refusing (suc r) s
 
   start-is : (s : Stores) → Fine s → hd s 4 ≡ 0 → (n : ℕ) (name : List ℕ) → startCall sheet program s n name ≡ startIf (gate s n name) s (map lowerOf name) (kindOf n (voidName esi name))
   unfolding startCall lowered tagRefusal
@@ -346,7 +348,7 @@ module _ (C : Compiled) (esi : Bool) where
       rw (never-30 s (f .good) (f .header), z, esi-is C esi s (f .good) (f .header))
       (go (badName name) (ltb 2 n) (leb 2147483647 (stack.children (s .rows))) (pairsFull (s .rows) (s .names) (map lowerOf name)))
     where
-      go : (a b c d : Bool) → cond (not (eqb (cond a 20 (cond b 21 (cond c 25 0))) 0)) (calls.refusing (cond a 20 (cond b 21 (cond c 25 0))) s) (cond d (calls.refusing 26 s) (startIf 0 s (map lowerOf name) (kindOf n (voidName esi name))))
+      go : (a b c d : Bool) → cond (not (eqb (cond a 20 (cond b 21 (cond c 25 0))) 0)) (tags.refusing (cond a 20 (cond b 21 (cond c 25 0))) s) (cond d (tags.refusing 26 s) (startIf 0 s (map lowerOf name) (kindOf n (voidName esi name))))
           ≡ startIf (cond a 20 (cond b 21 (cond c 25 (cond d 26 0)))) s (map lowerOf name) (kindOf n (voidName esi name))
       go true b c d = refl
       go false true c d = refl
@@ -367,8 +369,8 @@ module _ (C : Compiled) (esi : Bool) where
 
     module _ (x : List ℕ) (kind : ℕ) (hx : length x ≤ nameLimit) (few : stackOf s .top .children < 2147483647) (times : Times (stackOf s)) (spare : Spare (stackOf s) (hd s 3) x) where
       begun-met : (so : Sought) → Stop sheet program (s .nodes) (liveRanges sheet (s .rows)) (nodeCount sheet) (length sheet) so → FitScan (stackOf s) (forgotten C esi s g h so)
-          → Met (tagAnswered (calls.begun sheet program s x kind so)) (machine.begun P refusing (stackOf s) (tagAt C esi s g h x kind) (forgotten C esi s g h so))
-      unfolding calls.begun hasContent isHtml
+          → Met (tagAnswered (tags.begun sheet program s x kind so)) (machine.begun P refusing (stackOf s) (tagAt C esi s g h x kind) (forgotten C esi s g h so))
+      unfolding tags.begun hasContent isHtml
       begun-met (over found) st fit = gave s (Machine.ready (stackOf s)) (at-rest s z) f s g h z (tagAt C esi s g h x kind) (content (tagAt C esi s g h x kind) false) found hx few times spare fit
       begun-met (stopped found c) (sm, l, y) fit = waited s g h x kind hx few spare found c sm l y
 
@@ -390,7 +392,7 @@ module _ (C : Compiled) (esi : Bool) where
         let w = begin-right C esi s g h live light x kind (omega arith) (omega arith) in
         subst (λ u. Met (tagAnswered (startIf 0 s x kind)) (machine.begun P refusing (stackOf s) u (machine.begin P (stackOf s) u))) tag
         (subst (λ sc. Met (tagAnswered (startIf 0 s x kind)) (machine.begun P refusing (stackOf s) (tagAt C esi s g h x kind) sc)) w
-        (begun-met x kind (omega arith) few times spare (calls.begin sheet program (s .rows) (s .names) (s .nodes) x kind) (begin-stop C esi s g h live light x kind)
+        (begun-met x kind (omega arith) few times spare (course.begin sheet program (s .rows) (s .names) (s .nodes) x kind) (begin-stop C esi s g h live light x kind)
         (subst (FitScan (stackOf s)) (sym w) (subst (λ u. FitScan (stackOf s) (machine.begin P (stackOf s) u)) (sym tag) fit))))
     opened n name room (suc r) e = record { answer = refl; machine = at-rest s z; fine = f }
 
@@ -444,7 +446,7 @@ module _ (C : Compiled) (esi : Bool) where
         (subst (λ k. Met (endAnswered s (endIf r n out)) (close-if P refusing k (stackOf s) n)) e
         (closed out r n (popped-few s x) (λ q. end-room (badName name) (ltb (length out) (n * idWords)) n out refl q))))
 
-    attributes-early : (b : Bool) (input outlines : List ℕ) → attributesCall sheet program s b input outlines ≡ calls.refusing 23 s
+    attributes-early : (b : Bool) (input outlines : List ℕ) → attributesCall sheet program s b input outlines ≡ tags.refusing 23 s
     unfolding attributesCall attributesRefusal
     attributes-early b input outlines = rw (never-30 s g h, z)
 
@@ -478,7 +480,7 @@ module _ (C : Compiled) (esi : Bool) where
     unfolding decode
     waiting = rw (ne-eqb (hd s 4) 0 n)
 
-    start-early : (m : ℕ) (name : List ℕ) → startCall sheet program s m name ≡ calls.refusing 22 s
+    start-early : (m : ℕ) (name : List ℕ) → startCall sheet program s m name ≡ tags.refusing 22 s
     unfolding startCall tagRefusal
     start-early m name = rw (never-30 s (f .good) (f .header), ne-eqb (hd s 4) 0 n)
 
@@ -488,13 +490,13 @@ module _ (C : Compiled) (esi : Bool) where
 
     abbrev givenIf : ℕ → Bool → List ℕ → List ℕ → Outcome
     givenIf zero b input outlines = given sheet program s (heldName (s .rows) (s .names)) b input outlines
-    givenIf (suc r) b input outlines = calls.refusing (suc r) s
+    givenIf (suc r) b input outlines = tags.refusing (suc r) s
 
     attributes-is : (b : Bool) (input outlines : List ℕ) → attributesCall sheet program s b input outlines ≡ givenIf (cond (not (goodOutlines input outlines)) 24 0) b input outlines
     unfolding attributesCall attributesRefusal
     attributes-is b input outlines = rw (never-30 s (f .good) (f .header), ne-eqb (hd s 4) 0 n) (go (not (goodOutlines input outlines)))
       where
-        go : (a : Bool) → cond (not (eqb (cond a 24 0) 0)) (calls.refusing (cond a 24 0) s) (givenIf 0 b input outlines) ≡ givenIf (cond a 24 0) b input outlines
+        go : (a : Bool) → cond (not (eqb (cond a 24 0) 0)) (tags.refusing (cond a 24 0) s) (givenIf 0 b input outlines) ≡ givenIf (cond a 24 0) b input outlines
         go true = refl
         go false = refl
 
@@ -530,7 +532,7 @@ module _ (C : Compiled) (esi : Bool) where
           let l = length-cells (s .names) 0 (hd s 5) in
           let k = f .header .name in
           let hx : length (t .name) ≤ nameLimit = omega arith in
-          let r = resume-right C esi s (f .good) (f .header) (omega arith) (omega arith) (w .budget) input outlines in
+          let r = resume-right C esi s (f .good) (f .header) (omega arith) (omega arith) (w .budget) (w .light) input outlines in
           subst (λ found. Met (tagAnswered (whole sheet program s (released s) (t .name) (content t b) found)) (answer-if P refusing (push-refusal P refusing (stackOf s) t (content t b) found₀) held₀ (stackOf s) t (content t b) found₀)) (sym r)
           (subst (λ y. Met (tagAnswered (whole sheet program s (released s) (t .name) (content t b) found₀)) (answer-if P refusing (push-refusal P refusing y t (content t b) found₀) held₀ y t (content t b) found₀)) (c .stack)
           (gave s held₀ waiting f (released s) (c .good) free-header (released-flag types s (f .good)) t (content t b) found₀ hx

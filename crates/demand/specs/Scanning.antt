@@ -15,15 +15,15 @@ use Rattle.exec.specs.declared.cursor.Cursor.{Cursor}
 use Rattle.exec.specs.declared.cursor.Ranges.{Ranges}
 use Rattle.exec.specs.Cursors.{cursorOf, firstCursor, rangeAt, leftIn, ride, inRange, rides, later, rest, ats}
 use Rattle.exec.specs.CursorLaws.{Own, own-first}
-use Rattle.exec.specs.Instructions.{tagPasses, attributePasses, asks}
+use Rattle.exec.specs.Instructions.{keyFits, tagPasses, attributePasses, asks}
 use Rattle.exec.specs.Scans as scans
-use Rattle.exec.specs.Scans.{Sought, over, stopped, foundToo, seek, tagScan, allPass, attributeScan}
-use Rattle.exec.specs.ScanLaws.{length-ats, forget, seek-scan, tag-scan-all, attribute-scan-all}
+use Rattle.exec.specs.Scans.{Sought, over, stopped, foundToo, seek, testsTaken, tagScan, allPass, attributeScan}
+use Rattle.exec.specs.ScanLaws.{testsIn, length-ats, forget, seek-scan, tag-scan-all, attribute-scan-all}
 use Rattle.stack.specs.Stores as stack
 use Rattle.stack.specs.Stores.{Stores, rowWord, countLimit, oneMore, timesOf, heldFound, heldName, heldKind}
 use Rattle.stack.specs.Laws.{one-more}
 use Rattle.weighing.specs.Weighing.{esiOn, typesCounted}
-use Rattle.machine.specs.Calls as calls
+use Rattle.course.specs.Course as course
 use Rattle.course.specs.Course.{liveRanges, firstLive, heldCursor, isHtml, childPosition, typePosition, begin, resumed}
 use Rattle.machine.specs.Calls.{flagsOf}
 use Rattle.meaning.specs.Lists.{keep, put-if}
@@ -36,6 +36,15 @@ use Rattle.demand.specs.Decode.{hd, view, pairsAt, levelAt, stackOf, hel
 use Rattle.demand.specs.Reading.{times-top, live-all}
 use Rattle.demand.specs.Counting.{Good}
 use Rattle.demand.specs.Moving.{Header}
+
+tests-light : (sheet program : List ℕ) (key : ℕ) (cs : List Cursor) → testsIn sheet program key cs ≤ testBytes sheet program (ats cs)
+unfolding testsIn testsTaken
+tests-light sheet program key [] = omega arith
+tests-light sheet program key (c ∷ cs) = go (keyFits program key (c .at)) (tests-light sheet program key cs)
+  where
+    go : (b : Bool) → testsIn sheet program key cs ≤ testBytes sheet program (ats cs) → cond b (bytesAt sheet program (c .at)) 0 + testsIn sheet program key cs ≤ bytesAt sheet program (c .at) + testBytes sheet program (ats cs)
+    go true h = omega arith
+    go false h = omega arith
 
 -- ---- the numbers of a cursor fit their cells
 abbrev pub Small : Cursor → Type 0
@@ -179,6 +188,10 @@ module _ (C : Compiled) (esi : Bool) (s : Stores) (g : Good (C .types) s) (h : H
   abbrev first : Cursor
   first = firstLive sheet (s .rows)
 
+  -- What a scan charges for tests is at most what they take.
+  tests-few : (key : ℕ) (cs : List Cursor) → testBytes sheet program (ats cs) ≤ length sheet → testsIn sheet program key cs ≤ length sheet
+  tests-few key cs h = let l = tests-light sheet program key cs in omega (arith, l, h)
+
   module _ (fits : length (live-at (rowsProgram C) (stackOf s)) ≤ nodeCount sheet) (light : testBytes sheet program (live-at (rowsProgram C) (stackOf s)) ≤ length sheet) where
     slot-low : rowWord (s .rows) (hd s 0) 2 ≤ hd s 1
     slot-low = tidy-km (view s) (hd s 0) (hd s 1) (hd s 2) (hd s 3) (g .tidy)
@@ -196,16 +209,16 @@ module _ (C : Compiled) (esi : Bool) (s : Stores) (g : Good (C .types) s) (h : H
     rest-light = let k = ap (testBytes sheet program) (live-all C s (g .tidy)) in omega arith
 
     module _ (x : List ℕ) (kind : ℕ) where
-      scan-all : tagScan sheet program (s .nodes) (liveRanges sheet (s .rows)) x (nameKey x) (childPosition (s .rows)) (typePosition (s .rows) (s .names) x) first (nodeCount sheet)
+      scan-all : tagScan sheet program (s .nodes) (liveRanges sheet (s .rows)) x (nameKey x) (childPosition (s .rows)) (typePosition (s .rows) (s .names) x) first (nodeCount sheet) (length sheet)
           ≡ seek (tagPasses sheet program x (nameKey x) (childPosition (s .rows)) (typePosition (s .rows) (s .names) x)) (asks program) (restOf sheet program s first)
-      scan-all = tag-scan-all sheet program (s .nodes) (liveRanges sheet (s .rows)) x (nameKey x) (childPosition (s .rows)) (typePosition (s .rows) (s .names) x) true [] first (nodeCount sheet) rest-fits
+      scan-all = tag-scan-all sheet program (s .nodes) (liveRanges sheet (s .rows)) x (nameKey x) (childPosition (s .rows)) (typePosition (s .rows) (s .names) x) true [] first (nodeCount sheet) (length sheet) rest-fits (tests-few (nameKey x) (restOf sheet program s first) rest-light)
 
       -- The first scan stops in good order.
-      pub begin-stop : Stop sheet program (s .nodes) (liveRanges sheet (s .rows)) (nodeCount sheet) (length sheet) (calls.begin sheet program (s .rows) (s .names) (s .nodes) x kind)
+      pub begin-stop : Stop sheet program (s .nodes) (liveRanges sheet (s .rows)) (nodeCount sheet) (length sheet) (course.begin sheet program (s .rows) (s .names) (s .nodes) x kind)
       unfolding begin firstCursor
       begin-stop = go (isHtml kind)
         where
-          go : (b : Bool) → Stop sheet program (s .nodes) (liveRanges sheet (s .rows)) (nodeCount sheet) (length sheet) (cond b (tagScan sheet program (s .nodes) (liveRanges sheet (s .rows)) x (nameKey x) (childPosition (s .rows)) (typePosition (s .rows) (s .names) x) first (nodeCount sheet)) (stopped [] first))
+          go : (b : Bool) → Stop sheet program (s .nodes) (liveRanges sheet (s .rows)) (nodeCount sheet) (length sheet) (cond b (tagScan sheet program (s .nodes) (liveRanges sheet (s .rows)) x (nameKey x) (childPosition (s .rows)) (typePosition (s .rows) (s .names) x) first (nodeCount sheet) (length sheet)) (stopped [] first))
           go true =
               let p = tagPasses sheet program x (nameKey x) (childPosition (s .rows)) (typePosition (s .rows) (s .names) x) in
               subst (Stop sheet program (s .nodes) (liveRanges sheet (s .rows)) (nodeCount sheet) (length sheet)) (sym scan-all)
@@ -215,11 +228,11 @@ module _ (C : Compiled) (esi : Bool) (s : Stores) (g : Good (C .types) s) (h : H
 
       module _ (few : stackOf s .top .children < countLimit) (rare : times-of x (stackOf s .top .types) < countLimit) where
         -- It is the machine's.
-        pub begin-right : forgotten (calls.begin sheet program (s .rows) (s .names) (s .nodes) x kind) ≡ meaning.begin (rowsProgram C) (stackOf s) (tagAt x kind)
+        pub begin-right : forgotten (course.begin sheet program (s .rows) (s .names) (s .nodes) x kind) ≡ meaning.begin (rowsProgram C) (stackOf s) (tagAt x kind)
         unfolding begin isHtml
         begin-right = go (eqb (kind % 4) 0)
           where
-            go : (b : Bool) → forgotten (cond b (tagScan sheet program (s .nodes) (liveRanges sheet (s .rows)) x (nameKey x) (childPosition (s .rows)) (typePosition (s .rows) (s .names) x) first (nodeCount sheet)) (stopped [] first))
+            go : (b : Bool) → forgotten (cond b (tagScan sheet program (s .nodes) (liveRanges sheet (s .rows)) x (nameKey x) (childPosition (s .rows)) (typePosition (s .rows) (s .names) x) first (nodeCount sheet) (length sheet)) (stopped [] first))
                 ≡ scan-if (rowsProgram C) b (stackOf s) (tagAt x kind)
             go true =
                 let p = tagPasses sheet program x (nameKey x) (childPosition (s .rows)) (typePosition (s .rows) (s .names) x) in
@@ -229,7 +242,7 @@ module _ (C : Compiled) (esi : Bool) (s : Stores) (g : Good (C .types) s) (h : H
             go false = ap (stuck []) (live-all C s (g .tidy))
 
   -- ---- going on
-  module _ (few : stackOf s .top .children < countLimit) (rare : times-of (heldTag s .name) (stackOf s .top .types) < countLimit) (budget : length (restOf sheet program s (heldCursor (s .rows))) ≤ nodeCount sheet - hd s 7) (input outlines : List ℕ) where
+  module _ (few : stackOf s .top .children < countLimit) (rare : times-of (heldTag s .name) (stackOf s .top .types) < countLimit) (budget : length (restOf sheet program s (heldCursor (s .rows))) ≤ nodeCount sheet - hd s 7) (light : testBytes sheet program (ats (restOf sheet program s (heldCursor (s .rows)))) ≤ length sheet) (input outlines : List ℕ) where
     -- What is found with the attributes is what the machine finds.
     pub resume-right : resumed sheet program (s .rows) (s .names) (s .nodes) (heldName (s .rows) (s .names)) input outlines
         ≡ heldFound (s .rows) (s .nodes) ++ keep (passes (rowsProgram C) (stackOf s) (heldTag s) (record { input = input; outlines = outlines })) (ats (restOf sheet program s (heldCursor (s .rows))))
@@ -238,6 +251,6 @@ module _ (C : Compiled) (esi : Bool) (s : Stores) (g : Good (C .types) s) (h : H
         let x = heldName (s .rows) (s .names) in
         let p = allPass sheet program x (nameKey x) (childPosition (s .rows)) (typePosition (s .rows) (s .names) x) (isHtml (heldKind (s .rows))) (attributesOf input outlines) in
         ap (λ l. heldFound (s .rows) (s .nodes) ++ l)
-        (attribute-scan-all sheet program (s .nodes) (liveRanges sheet (s .rows)) x (nameKey x) (childPosition (s .rows)) (typePosition (s .rows) (s .names) x) (isHtml (heldKind (s .rows))) (attributesOf input outlines) (heldCursor (s .rows)) (nodeCount sheet - hd s 7) budget
+        (attribute-scan-all sheet program (s .nodes) (liveRanges sheet (s .rows)) x (nameKey x) (childPosition (s .rows)) (typePosition (s .rows) (s .names) x) (isHtml (heldKind (s .rows))) (attributesOf input outlines) (heldCursor (s .rows)) (nodeCount sheet - hd s 7) (length sheet) budget (tests-few (nameKey x) (restOf sheet program s (heldCursor (s .rows))) light)
         ∙ keeps p (ats (restOf sheet program s (heldCursor (s .rows))))
         ∙ (λ i. keep (λ n. tagPasses sheet program x (nameKey x) (child-position few i) (type-position few x rare i) n && attributePasses sheet program (isHtml (heldKind (s .rows))) (attributesOf input outlines) n) (ats (restOf sheet program s (heldCursor (s .rows))))))

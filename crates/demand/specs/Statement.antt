@@ -13,7 +13,7 @@ use Rattle.sheet.specs.Parser.{Parsed, parseSheet}
 use Rattle.compiler.specs.Compiler.{places}
 use Rattle.stack.specs.Stores.{Stores, stores, idWords}
 use Rattle.weighing.specs.Weighing.{sized}
-use Rattle.machine.specs.declared.Answer as machine
+use Rattle.tags.specs.declared.Answer as tags
 use Rattle.machine.specs.declared.Made.{Made}
 use Rattle.machine.specs.declared.Popped.{Popped}
 use Rattle.machine.specs.declared.Top.{Top}
@@ -52,10 +52,10 @@ wordsFrom ids k zero = []
 wordsFrom ids k (suc n) = cellsFrom ids (k * idWords) idWords ∷ wordsFrom ids (k + 1) n
 
 -- The answers, with the ids that come beside them.
-abbrev pub tagAnswer : machine.Answer → (ids : List ℕ) → Answer (List ℕ)
-tagAnswer (machine.Answer.Match content) ids = matched ids content
-tagAnswer machine.Answer.Attributes ids = attributes-wanted
-tagAnswer (machine.Answer.Refused number) ids = refused number
+abbrev pub tagAnswer : tags.Answer → (ids : List ℕ) → Answer (List ℕ)
+tagAnswer (tags.Answer.Match content) ids = matched ids content
+tagAnswer tags.Answer.Attributes ids = attributes-wanted
+tagAnswer (tags.Answer.Refused number) ids = refused number
 
 abbrev pub endAnswer : Popped → (buffer : List ℕ) → Answer (List ℕ)
 endAnswer (Popped.Elements n) buffer = popped (wordsFrom buffer 0 n)

@@ -10,7 +10,7 @@ use lib.Dec.{T, eqb}
 use borrow.Author.Tests.{eq-eqb, eqb-true}
 use Rattle.node_tests.specs.Tests.{readTagTest, readAttributeTest}
 use Rattle.sheet.specs.Records.{NodeRecord, recordAt, endOf, tagCount, attributeCount, testsAt, testsEnd, testsFrom}
-use Rattle.sheet.specs.Spelling.{TestsInside, Inside, Spells, Sheet}
+use Rattle.sheet.specs.Spelling.{Inside, Spells, Sheet}
 use Rattle.exec.specs.Cursors.{rowWord}
 use Rattle.exec.specs.Instructions as instructions
 use Rattle.meaning.specs.Lists.{_∈_, here, there, Distinct, keep, put-if, sum}
@@ -130,23 +130,10 @@ record-first : (s : List ℕ) (at : ℕ) (node : NodeRecord) → node ≡ record
 unfolding recordAt
 record-first s at node e = ap (λ (n : NodeRecord). n .firstTest) e
 
-tests-long : (s : List ℕ) (stop n at : ℕ) → TestsInside s stop n at → at + 4 * n ≤ testsEnd s n at
-unfolding TestsInside testsEnd
-tests-long s stop zero at t = omega arith
-tests-long s stop (suc n) at (a, (b, t)) = let h = tests-long s stop n (endOf s at) t in omega arith
-
 tests-after : (s : List ℕ) (n m at : ℕ) → testsEnd s (n + m) at ≡ testsEnd s m (testsEnd s n at)
 unfolding testsEnd
 tests-after s zero m at = let z : 0 + m ≡ m = omega arith in rw z
 tests-after s (suc n) m at = let z : suc n + m ≡ suc (n + m) = omega arith in rw z (tests-after s n m (endOf s at))
-
-four-light : (s : List ℕ) (at : ℕ) (node : NodeRecord) → node ≡ recordAt s at → Inside s at → at + 4 * testsOf node ≤ endOf s at
-four-light s at node e i =
-    let a = tests-long s (endOf s at) (tagCount s at) (testsAt s at) (i .tags) in
-    let b = tests-long s (endOf s at) (attributeCount s at) (testsEnd s (tagCount s at) (testsAt s at)) (i .attributes) in
-    let c = i .whole in
-    let d = record-tests s at node e in
-    omega arith
 
 -- The bytes that a node's tests take.
 abbrev bytesOf : List ℕ → NodeRecord → ℕ
@@ -159,10 +146,6 @@ bytes-light s at node e i =
     let n = i .numbers in
     omega arith
 
-sum-four : (v : ℕ → ℕ) (xs : List ℕ) → sum (map (λ a. 4 * v a) xs) ≡ 4 * sum (map v xs)
-sum-four v [] = refl
-sum-four v (x ∷ xs) = let h = sum-four v xs in omega arith
-
 module _ (sheet store : List ℕ) (bytes : (i : ℕ) → getD sheet i 0 < 256) (f : Forest NodeRecord) (good : Sheet sheet f) (room : size f ≤ length store / 8) where
   abbrev rows : List ℕ
   rows = prog sheet store bytes f good room
@@ -170,14 +153,7 @@ module _ (sheet store : List ℕ) (bytes : (i : ℕ) → getD sheet i 0 < 256) (
   count-is : (a : ℕ) (i : Instruction NodeRecord) → fetch (layout 0 f) a ≡ some i → instructions.tagCount rows a + instructions.attributeCount rows a ≡ testsOf (i .says)
   count-is a i e = ap₂ (λ (x y : ℕ). x + y) (tag-count sheet store bytes f good room a i e ∙ sym (tags-many sheet store bytes f good room a i e)) (attribute-count sheet store bytes f good room a i e ∙ sym (attributes-many sheet store bytes f good room a i e))
 
-  -- Distinct nodes have in sum at most a quarter as many tests as the sheet has bytes,
-  pub few-tests : (xs : List ℕ) → Distinct xs → ((x : ℕ) → x ∈ xs → x < size f) → sum (map (λ a. instructions.tagCount rows a + instructions.attributeCount rows a) xs) ≤ length sheet / 4
-  few-tests xs d h =
-      let a = sheet-weight (λ node. 4 * testsOf node) sheet (four-light sheet) f good (λ a. 4 * (instructions.tagCount rows a + instructions.attributeCount rows a)) (λ a i e. ap (λ (n : ℕ). 4 * n) (count-is a i e)) xs d h in
-      let b = sum-four (λ a. instructions.tagCount rows a + instructions.attributeCount rows a) xs in
-      omega arith
-
-  -- and their tests take no more bytes than it has.
+  -- The tests of distinct nodes take no more bytes than the sheet has.
   pub few-bytes : (xs : List ℕ) → Distinct xs → ((x : ℕ) → x ∈ xs → x < size f)
       → sum (map (λ a. instructions.testsEnd sheet (instructions.tagCount rows a + instructions.attributeCount rows a) (rowWord rows a 1) - rowWord rows a 1) xs) ≤ length sheet
   few-bytes xs d h =
