@@ -4,10 +4,9 @@ use mathlib.Core.Bool.{Bool, true, false, cond, not, _&&_, _||_, false≢true}
 use mathlib.Core.List.{List, [], _∷_, _++_, map, reverse}
 use Prim.Native.Nat.{ℕ, zero, suc, _+_, _-_, _*_, _/_, _%_, _<_, _≤_}
 use native.Mathlib.Omega.{arith}
-use native.Mathlib.Numerals.{add-one}
 use lib.ListN.{length, getD, take, length-map}
 use lib.Dec.{eqb, ltb, leb}
-use borrow.Author.Tests.{lt-ltb, le-ltb, lt-leb, le-leb, ltb-true, ltb-false, leb-true, leb-false, eqb-true, eqb-false, eq-eqb, ne-eqb}
+use borrow.Author.Tests.{le-ltb, lt-leb, le-leb, ltb-true, ltb-false, leb-false, eqb-true, eqb-false, eq-eqb, ne-eqb}
 use Rattle.cells.specs.Stretches.{cellsFrom, written, length-cells, get-in}
 use Rattle.names.specs.Bytes.{lowerOf}
 use Rattle.names.specs.Names.{voidName}
@@ -17,8 +16,8 @@ use Rattle.exec.specs.declared.cursor.Cursor.{Cursor}
 use Rattle.exec.specs.Cursors.{ats}
 use Rattle.exec.specs.Scans.{Sought, over, stopped}
 use Rattle.stack.specs.Stores as stack
-use Rattle.stack.specs.Stores.{Stores, stores, openLimit, pairLimit, parentLimit, ancestorLimit, foundLimit, nameLimit, idWords, rowsSize, namesSize, idsSize, nodesSize, idsAt, rowWord, countLimit, counted, pushed, poppedCount, poppedRows, poppedIds, topIds, backTo, held, released, heldName, heldFound, heldKind}
-use Rattle.weighing.specs.Weighing.{madeMark, esiOn, typesCounted, sized, headerShaped, shaped, stateRefusal, badName, tagRefusal, pairsFull, pushRefusal, attributesRefusal, endRefusal}
+use Rattle.stack.specs.Stores.{Stores, stores, openLimit, pairLimit, parentLimit, ancestorLimit, foundLimit, nameLimit, idWords, rowsSize, namesSize, idsSize, nodesSize, idsAt, rowWord, counted, pushed, poppedCount, poppedRows, poppedIds, topIds, backTo, held, released, heldName, heldFound}
+use Rattle.weighing.specs.Weighing.{madeMark, sized, headerShaped, shaped, stateRefusal, badName, tagRefusal, pairsFull, pushRefusal, attributesRefusal, endRefusal}
 use Rattle.course.specs.Course as course
 use Rattle.tags.specs.Tags as tags
 use Rattle.machine.specs.Calls as calls
@@ -26,21 +25,21 @@ use Rattle.machine.specs.declared.Popped.{Popped}
 use Rattle.machine.specs.declared.Top.{Top}
 use Rattle.tags.specs.Tags.{Outcome, noIds, cell, accepted, whole, lowered, given}
 use Rattle.machine.specs.Calls.{Ended, topReply, flagsOf, startCall, attributesCall, popping, endCall, idSetCall}
-use Rattle.course.specs.Course.{liveRanges, kindOf, isHtml, hasContent, heldCursor, resumed}
+use Rattle.course.specs.Course.{liveRanges, kindOf, isHtml, hasContent, heldCursor}
 use Rattle.meaning.specs.Lists.{keep, minus}
 use Rattle.meaning.specs.Document.{child, descendant}
-use Rattle.meaning.specs.Elements.{Name, Tag, html, content}
+use Rattle.meaning.specs.Elements.{Name, Tag, content}
 use Rattle.meaning.specs.Limits.{section-2, bad-name}
-use Rattle.meaning.specs.Calls.{Program, Call, start-tag, attributes, end-tag, ids-asked, Answer, matched, attributes-wanted, popped, top-ids, nothing-open, refused}
+use Rattle.meaning.specs.Calls.{Program, Call, start-tag, attributes, end-tag, ids-asked, Answer, matched, attributes-wanted, popped, top-ids, refused}
 use Rattle.meaning.specs.Machine as machine
-use Rattle.meaning.specs.Machine.{Item, Stack, Machine, Scan, done, stuck, known, times-of, bearing, nearest, first, ancestors-of, carried, live-at, accept, passes, pairs-of, weigh, top-of, push-refusal, answer-if, begin-if, resume, close-if, end-if, step, run}
+use Rattle.meaning.specs.Machine.{Stack, Machine, Scan, done, stuck, known, times-of, bearing, nearest, first, ancestors-of, carried, live-at, accept, passes, pairs-of, weigh, top-of, push-refusal, answer-if, begin-if, close-if, end-if, step, run}
 use Rattle.demand.specs.Sheets.{Lent}
 use Rattle.demand.specs.Statement.{refusing, HostCall, startTag, tagAttributes, endTag, idsAsked, callOf, wordsFrom, topAnswer, tagAnswered, endAnswered, called, answers}
 use Rattle.demand.specs.Rows.{testBytes, Compiled, rowsProgram, rootsOf, hungOf}
 use Rattle.demand.specs.Decode.{hd, view, levelAt, itemsAt, stackOf, heldTag, restOf, decode, tidy-pm}
-use Rattle.demand.specs.Reading.{bearing-child, ancestors-all, ancestors-new, live-all, open-all, parents-total, pairs-total, times-top, known-top, popped-top, popped-few, popped-words}
+use Rattle.demand.specs.Reading.{bearing-child, ancestors-all, ancestors-new, open-all, parents-total, pairs-total, times-top, known-top, popped-top, popped-few, popped-words}
 use Rattle.demand.specs.Counting.{Good}
-use Rattle.demand.specs.Moving.{Header, header-kept, newParents, newOnes, unite, Roomy, Settled, settled, Same, released-off, released-flag, released-same, wait-low, wait-high, wait-new, wait-same, wait-name, wait-rest, wait-decode, back-stack, back-good, back-rest}
+use Rattle.demand.specs.Moving.{Header, header-kept, newParents, unite, Roomy, Settled, settled, released-off, released-flag, released-same, wait-low, wait-high, wait-new, wait-same, wait-name, wait-rest, wait-decode, back-stack, back-good, back-rest}
 use Rattle.demand.specs.Scanning.{Small, Stop, esi-is, types-is, tagAt, forgotten, begin-stop, begin-right, resume-right}
 
 or-cond : (a b : Bool) → cond a true b ≡ a || b

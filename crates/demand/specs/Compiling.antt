@@ -1,22 +1,22 @@
 -- The rows that the compiler writes hold the layout of the forest: its ranges, its tests, its ids.
-use mathlib.Core.Path.{_≡_, refl, sym, _∙_, ap, ap₂, subst}
+use mathlib.Core.Path.{_≡_, refl, sym, _∙_, ap}
 use mathlib.Core.Option.{some}
 use mathlib.Core.Bool.{Bool, true, false, cond, not, _&&_, false≢true}
 use mathlib.Core.List.{List, [], _∷_, map}
-use Prim.Native.Nat.{ℕ, zero, suc, _+_, _-_, _*_, _/_, _%_, _<_, _≤_}
+use Prim.Native.Nat.{ℕ, zero, suc, _+_, _-_, _*_, _/_, _<_, _≤_}
 use native.Mathlib.Omega.{arith}
 use lib.ListN.{length, getD, length-map}
 use lib.Seq.{sets}
 use lib.Dec.{eqb, ltb, leb}
 use borrow.Author.Tests.{lt-ltb, ltb-false, eqb-false, ne-eqb}
-use Rattle.cells.specs.Numbers.{part, be16}
+use Rattle.cells.specs.Numbers.{part}
 use Rattle.names.specs.Names.{nameKey}
 use Rattle.rules.specs.Attributes.{Attribute, attributesOf}
 use Rattle.node_tests.specs.Tests.{Negatable, TagTest, readTagTest, readAttributeTest, tagTestHolds, attributeTestHolds}
 use Rattle.sheet.specs.Records as records
 use Rattle.sheet.specs.Records.{NodeRecord, recordAt, endOf, countsAt, testsAt, testsFrom}
 use Rattle.sheet.specs.Parser.{rising, nodeCount, rootCount}
-use Rattle.sheet.specs.Spelling.{Inside, Sheet}
+use Rattle.sheet.specs.Spelling.{Sheet}
 use Rattle.sheet.specs.SpellingLaws.{spelt-width}
 use Rattle.compiler.specs.Program.{nodeKey, words, row, rows}
 use Rattle.compiler.specs.KeyLaws.{key-skips}
@@ -32,8 +32,8 @@ use Rattle.meaning.specs.Document.{Link, child, descendant}
 use Rattle.meaning.specs.Trees.{Forest, end, tree, width, size, some-node}
 use Rattle.meaning.specs.Layout.{Instruction, layout, fetch, length-layout}
 use Rattle.meaning.specs.Elements.{Tag, html}
-use Rattle.meaning.specs.Tests.{Tests, of-type-tested}
-use Rattle.meaning.specs.Match.{Way, by}
+use Rattle.meaning.specs.Tests.{of-type-tested}
+use Rattle.meaning.specs.Match.{by}
 use Rattle.meaning.specs.Spans.{span, span-mem}
 use Rattle.meaning.specs.Owners.{fetch-below}
 use Rattle.meaning.specs.Shape.{every-way, way-below}

@@ -2,21 +2,20 @@
 use mathlib.Core.Path.{_≡_, refl, sym, _∙_, ap, subst}
 use mathlib.Core.Bool.{Bool, true, false, cond, false≢true}
 use mathlib.Core.List.{List, [], _∷_}
-use Prim.Native.Nat.{ℕ, zero, suc, _+_, _-_, _*_, _<_, _≤_}
+use Prim.Native.Nat.{ℕ, zero, suc, _+_, _-_, _<_, _≤_}
 use native.Mathlib.Omega.{arith}
 use native.Mathlib.Numerals.{add-one}
 use lib.ListN.{length, getD}
-use lib.Dec.{eqb, ltb}
+use lib.Dec.{eqb}
 use borrow.Author.Tests.{ltb-true, ltb-false, eqb-true, eqb-false}
 use Rattle.cells.specs.Stretches.{cellsFrom, written, length-written, cells-below, cells-in}
 use Rattle.names.specs.Bytes.{equalBytes}
 use Rattle.stack.specs.Stores as stack
-use Rattle.stack.specs.Stores.{Stores, stores, openLimit, pairLimit, parentLimit, ancestorLimit, nameLimit, nameSize, rowsSize, namesSize, idsSize, nodesSize, rowAt, pairAt, nameAt, pairNameAt, rowWord, countLimit, oneMore, holdsName, findPair, pairOf, timesOf, nameCountedNames, nameCountedRows, countedRows, countedNames, counted}
+use Rattle.stack.specs.Stores.{Stores, stores, openLimit, pairLimit, parentLimit, ancestorLimit, nameLimit, rowsSize, namesSize, idsSize, nodesSize, rowAt, pairAt, nameAt, pairNameAt, rowWord, countLimit, holdsName, findPair, pairOf, timesOf, countedRows, countedNames, counted}
 use Rattle.stack.specs.Laws.{one-more}
 use Rattle.stack.specs.Reads.{count-off, count-children, count-length, again-off, again-times, again-length, again-names, new-off, new-length, new-names, new-top, new-pair}
-use Rattle.meaning.specs.Elements.{same-name}
-use Rattle.meaning.specs.Machine.{Counter, Stack, count-name}
-use Rattle.demand.specs.Decode.{View, hd, pairName, countAt, pairsAt, view, levelAt, stackAt, stackOf, Tidy, Alike, frames-alike, tidy-alike, tidy-pm, tidy-self, tidy-more}
+use Rattle.meaning.specs.Machine.{Counter, count-name}
+use Rattle.demand.specs.Decode.{hd, pairName, countAt, pairsAt, view, levelAt, stackAt, stackOf, Tidy, Alike, frames-alike, tidy-alike, tidy-pm, tidy-self, tidy-more}
 use Rattle.demand.specs.Reading.{same-bytes, find-low}
 use Rattle.demand.specs.Pushing.{pairs-same}
 

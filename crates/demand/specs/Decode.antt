@@ -1,12 +1,11 @@
 -- What the stores stand for: a machine of `meaning`; and what that depends on.
-use mathlib.Core.Path.{_≡_, refl, sym, _∙_, ap, ap₂, subst, fun-ext}
-use mathlib.Core.Bool.{Bool, true, false, cond, not, _&&_, _||_, false≢true}
-use mathlib.Core.List.{List, [], _∷_, _++_, map, reverse, reverseAux, append-nil, append-assoc, flatMap}
+use mathlib.Core.Path.{_≡_, refl, _∙_}
+use mathlib.Core.Bool.{cond}
+use mathlib.Core.List.{List, [], _∷_}
 use Prim.Native.Nat.{ℕ, zero, suc, _+_, _-_, _*_, _/_, _%_, _<_, _≤_}
 use native.Mathlib.Omega.{arith}
-use native.Mathlib.Numerals.{add-one}
-use lib.ListN.{length, getD, take, length-append}
-use lib.Dec.{T, eqb, ltb, leb}
+use lib.ListN.{getD}
+use lib.Dec.{eqb}
 use Rattle.cells.specs.Stretches.{cellsFrom}
 use Rattle.stack.specs.Stores.{Stores, parentLimit, nameLimit, nameSize, idWords, pairAt, pairNameAt, rowWord, heldKind, heldName, heldFound}
 use Rattle.exec.specs.declared.cursor.Cursor.{Cursor}

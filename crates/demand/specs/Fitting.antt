@@ -1,27 +1,26 @@
 -- There is always room: each node is live once, and no name is counted more often than the children.
-use mathlib.Core.Path.{_≡_, refl, sym, _∙_, ap, subst}
+use mathlib.Core.Path.{_≡_, refl, sym, ap}
 use mathlib.Core.Bool.{Bool, true, false, cond}
-use mathlib.Core.List.{List, [], _∷_, _++_}
-use Prim.Native.Nat.{ℕ, zero, suc, _+_, _<_, _≤_}
+use mathlib.Core.List.{List, [], _∷_}
+use Prim.Native.Nat.{ℕ, suc, _<_, _≤_}
 use native.Mathlib.Omega.{arith}
 use lib.ListN.{length, length-append}
 use Rattle.sheet.specs.Parser.{nodeCount}
-use Rattle.meaning.specs.Lists.{_∈_, Distinct, keep, minus}
-use Rattle.meaning.specs.Document.{child, descendant, start, after, inside, spot}
+use Rattle.meaning.specs.Lists.{_∈_, Distinct, minus}
+use Rattle.meaning.specs.Document.{descendant, start, after, inside, spot}
 use Rattle.meaning.specs.Match.{Way, TreeShaped}
-use Rattle.meaning.specs.Elements.{Where, Name, same-name, Tag, Given, Element, element}
+use Rattle.meaning.specs.Elements.{Where, same-name, Tag, Given, Element, element}
 use Rattle.meaning.specs.Calls.{Call, start-tag, attributes, end-tag, ids-asked}
-use Rattle.meaning.specs.Machine.{Stack, Machine, Scan, done, stuck, times-of, count-name, bearing, carried, begin, live-at, step}
+use Rattle.meaning.specs.Machine.{Machine, Scan, done, stuck, times-of, count-name, bearing, carried, begin, live-at, step}
 use Rattle.meaning.specs.Demand.{Moment, address-holds}
 use Rattle.meaning.specs.Names.{times-count}
-use Rattle.meaning.specs.Carrying.{bearers}
 use Rattle.meaning.specs.Once.{live-once}
 use Rattle.meaning.specs.Answering.{hits-of, live-of, stack-of, carried-bearers, live-carried, finished, begin-hits, Stood, at-rest, held, said, step-said}
 use Rattle.meaning.specs.Bounds.{live-few, hits-few, bearers-few}
 use Rattle.demand.specs.Sheets.{Lent}
 use Rattle.demand.specs.Statement.{refusing}
 use Rattle.demand.specs.Rows.{testBytes, Compiled, rowsProgram, rootsOf, hungOf}
-use Rattle.demand.specs.Bridging.{P, Fit, FitScan, Times, Room, Rooms}
+use Rattle.demand.specs.Bridging.{Fit, FitScan, Times, Room, Rooms}
 
 module _ (C : Compiled) (esi : Bool) (trees : TreeShaped (rootsOf (C .sheet) (C .program)) (hungOf (C .sheet) (C .program)))
     (below : (a : ℕ) → Way (rootsOf (C .sheet) (C .program)) (hungOf (C .sheet) (C .program)) a → a < nodeCount (C .sheet))

@@ -1,34 +1,32 @@
 -- Accepting a tag, waiting, going on, popping, a fresh machine: what the stores then stand for.
 use mathlib.Core.Path.{_≡_, refl, sym, _∙_, ap, subst}
-use mathlib.Core.Bool.{Bool, true, false, cond, false≢true}
-use mathlib.Core.List.{List, [], _∷_, _++_}
-use Prim.Native.Nat.{ℕ, zero, suc, _+_, _-_, _*_, _/_, _%_, _<_, _≤_}
+use mathlib.Core.Bool.{Bool, true, false, cond}
+use mathlib.Core.List.{List, [], _∷_}
+use Prim.Native.Nat.{ℕ, zero, suc, _+_, _-_, _/_, _%_, _<_, _≤_}
 use native.Mathlib.Omega.{arith}
 use native.Mathlib.Numerals.{add-one}
 use lib.ListN.{length, getD}
 use lib.Dec.{eqb}
-use borrow.Author.Tests.{ne-eqb}
 use Rattle.cells.specs.Stretches.{cellsFrom, written, length-written, get-below, get-off, get-on, cells-above, cells-same}
 use Rattle.sheet.specs.Parser.{nodeCount}
 use Rattle.stack.specs.Stores as stack
-use Rattle.stack.specs.Stores.{Stores, stores, headerSize, openLimit, pairLimit, parentLimit, ancestorLimit, foundLimit, nameLimit, nameSize, idWords, foundFrom, rowsSize, namesSize, idsSize, nodesSize, rowAt, pairAt, nameAt, pairNameAt, idsAt, rowWord, countLimit, timesOf, counted, bearers, newAncestors, childBlock, pushed, backTo, poppedRows, popped, heldKind, heldName, heldFound, heldRows, held, releasedRows, released, freshRows}
+use Rattle.stack.specs.Stores.{Stores, stores, openLimit, pairLimit, parentLimit, ancestorLimit, foundLimit, nameLimit, nameSize, idWords, foundFrom, rowsSize, namesSize, idsSize, nodesSize, rowAt, pairAt, nameAt, pairNameAt, idsAt, rowWord, countLimit, timesOf, counted, bearers, newAncestors, childBlock, pushed, backTo, heldKind, heldName, heldFound, held, released, freshRows}
 use Rattle.stack.specs.Reads.{push-length, held-below, held-above, held-length, held-word, held-name, held-found, back-above, back-header, back-length, fresh-word, fresh-length}
 use Rattle.exec.specs.declared.cursor.Cursor.{Cursor}
 use Rattle.exec.specs.declared.cursor.Ranges.{Ranges}
-use Rattle.exec.specs.Cursors.{rangeAt, inRange, rides, later, rest, ats}
+use Rattle.exec.specs.Cursors.{rangeAt, rides, later, rest, ats}
 use Rattle.exec.specs.FoundIds.{withIdsOf}
 use Rattle.weighing.specs.Weighing.{madeMark}
-use Rattle.course.specs.Course.{liveRanges, heldCursor, kindOf}
+use Rattle.course.specs.Course.{liveRanges, heldCursor}
 use Rattle.machine.specs.Calls.{flagsOf}
-use Rattle.meaning.specs.Document.{child, descendant}
 use Rattle.meaning.specs.Elements.{Tag}
-use Rattle.meaning.specs.Machine.{Stack, Machine, bare, empty, accept, pops}
+use Rattle.meaning.specs.Machine.{Machine, bare, empty, accept, pops}
 use Rattle.demand.specs.Words.{two-words}
 use Rattle.demand.specs.Rows.{Compiled, rowsProgram}
-use Rattle.demand.specs.Decode.{View, hd, pairsAt, view, levelAt, itemsAt, stackAt, stackOf, heldTag, restOf, decode, Tidy, Alike, frames-alike, tidy-alike, tidy-pm, tidy-back, tidy-under, pops-back}
+use Rattle.demand.specs.Decode.{hd, pairsAt, view, levelAt, itemsAt, stackAt, stackOf, heldTag, restOf, decode, Tidy, Alike, frames-alike, tidy-alike, tidy-pm, tidy-back, tidy-under, pops-back}
 use Rattle.demand.specs.Reading.{bearing-child, ancestors-new}
 use Rattle.demand.specs.Pushing.{pairs-same, entered, pushed-is, push-0, push-1, push-2, push-more, push-far, push-stack, push-tidy}
-use Rattle.demand.specs.Counting.{Good, level-stack, level-tidy, Tallied, tallied}
+use Rattle.demand.specs.Counting.{Good, level-stack, level-tidy, tallied}
 
 -- The rest of the header: whether a tag waits, its name's length, how many nodes it found; the mark, the sheet's length, the flags.
 pub record Header (C : Compiled) (esi : Bool) (s : Stores) : Type 0 where

@@ -1,8 +1,8 @@
 -- Demand 3 on bytes is proved.
 use mathlib.Core.Path.{_≡_, refl, sym, _∙_, ap, subst}
 use mathlib.Core.Bool.{Bool, true, false, cond, not, _&&_, false≢true}
-use mathlib.Core.List.{List, [], _∷_, map}
-use Prim.Native.Nat.{ℕ, suc, _+_, _*_, _/_, _%_, _<_, _≤_}
+use mathlib.Core.List.{List, map}
+use Prim.Native.Nat.{ℕ, _+_, _*_, _%_, _<_, _≤_}
 use native.Mathlib.Omega.{arith}
 use lib.ListN.{length, getD}
 use lib.Seq.{sets}
@@ -36,7 +36,7 @@ use Rattle.meaning.specs.Proof.{demand-3}
 use Rattle.demand.specs.Sheets.{Lent, lentTests, sheetProgram}
 use Rattle.demand.specs.Statement.{refusing, HostCall, callOf, answers, madeIn, Demand-3-on-bytes}
 use Rattle.demand.specs.Rows.{testBytes, Compiled, rowsProgram, rootsOf, hungOf}
-use Rattle.demand.specs.Decode.{stackOf, decode}
+use Rattle.demand.specs.Decode.{decode}
 use Rattle.demand.specs.Moving as moving
 use Rattle.demand.specs.Bridging as bridging
 use Rattle.demand.specs.Fitting.{rooms}

@@ -1,16 +1,16 @@
 -- A push, and what the stores then stand for.
-use mathlib.Core.Path.{_≡_, refl, sym, _∙_}
+use mathlib.Core.Path.{_≡_, refl, _∙_}
 use mathlib.Core.List.{List, [], _∷_}
-use Prim.Native.Nat.{ℕ, zero, suc, _+_, _-_, _*_, _<_, _≤_}
+use Prim.Native.Nat.{ℕ, zero, suc, _+_, _-_, _<_, _≤_}
 use native.Mathlib.Omega.{arith}
 use native.Mathlib.Numerals.{add-one}
 use lib.ListN.{length, getD}
 use Rattle.cells.specs.Stretches.{cellsFrom, written, length-written, cells-below, cells-above, cells-in}
 use Rattle.stack.specs.Stores as stack
-use Rattle.stack.specs.Stores.{Stores, stores, openLimit, pairLimit, parentLimit, ancestorLimit, nameLimit, nameSize, idWords, rowsSize, namesSize, idsSize, nodesSize, rowAt, pairAt, nameAt, pairNameAt, idsAt, rowWord, bearers, newAncestors, childBlock, withRow, pushed}
+use Rattle.stack.specs.Stores.{Stores, stores, openLimit, pairLimit, parentLimit, ancestorLimit, nameLimit, idWords, rowsSize, namesSize, idsSize, nodesSize, rowAt, pairAt, nameAt, pairNameAt, idsAt, rowWord, bearers, newAncestors, childBlock, withRow, pushed}
 use Rattle.stack.specs.Reads.{push-below, push-above, push-header, push-row}
-use Rattle.meaning.specs.Machine.{Stack, bare}
-use Rattle.demand.specs.Decode.{View, hd, pairsAt, view, levelAt, itemsAt, stackAt, stackOf, Tidy, Alike, frames-alike, tidy-alike, tidy-pm}
+use Rattle.meaning.specs.Machine.{bare}
+use Rattle.demand.specs.Decode.{hd, pairsAt, view, levelAt, itemsAt, stackAt, stackOf, Tidy, Alike, frames-alike, tidy-alike, tidy-pm}
 
 -- Pairs are what their cells and names are.
 pub pairs-same : (rows rows′ names names′ : List ℕ) (i n : ℕ)

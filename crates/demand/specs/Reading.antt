@@ -1,8 +1,8 @@
 -- What a call reads off the stores is what the machine that they stand for holds.
-use mathlib.Core.Path.{_≡_, refl, sym, _∙_, ap, ap₂, fun-ext}
-use mathlib.Core.Bool.{Bool, true, false, cond, not, _&&_, _||_}
-use mathlib.Core.List.{List, [], _∷_, _++_, map, reverse, reverseAux, append-nil, append-assoc, flatMap}
-use Prim.Native.Nat.{ℕ, zero, suc, _+_, _-_, _*_, _<_, _≤_}
+use mathlib.Core.Path.{_≡_, refl, sym, _∙_, ap}
+use mathlib.Core.Bool.{Bool, true, false, cond, _&&_, _||_}
+use mathlib.Core.List.{List, [], _∷_, _++_, map, reverse, reverseAux, append-nil, append-assoc}
+use Prim.Native.Nat.{ℕ, zero, suc, _+_, _-_, _*_, _≤_}
 use native.Mathlib.Omega.{arith}
 use native.Mathlib.Numerals.{add-one}
 use lib.ListN.{length, getD, take}
@@ -15,17 +15,17 @@ use Rattle.exec.specs.Cursors as cursors
 use Rattle.exec.specs.Cursors.{ats, hangs, leftIn}
 use Rattle.exec.specs.CursorLaws.{ats-first}
 use Rattle.stack.specs.Stores as stack
-use Rattle.stack.specs.Stores.{Stores, parentLimit, nameSize, idWords, pairAt, rowWord, opens, pairsTop, holdsName, findPair, pairOf, timesOf, instructionAt, childBlock, descendantBlock, blockLength, bears, bearers, listed, newAncestors, through, poppedCount}
+use Rattle.stack.specs.Stores.{Stores, parentLimit, nameSize, idWords, pairAt, rowWord, holdsName, findPair, pairOf, timesOf, childBlock, blockLength, bears, bearers, listed, newAncestors, through, poppedCount}
 use Rattle.course.specs.Course.{liveRanges, firstLive}
-use Rattle.meaning.specs.Lists.{keep, put-if, gather, sum, has, minus, some, full}
+use Rattle.meaning.specs.Lists.{keep, put-if, gather, sum, has, minus, full}
 use Rattle.meaning.specs.Document.{child, descendant}
-use Rattle.meaning.specs.Elements.{Name, same-name}
+use Rattle.meaning.specs.Elements.{same-name}
 use Rattle.meaning.specs.Spans.{span}
-use Rattle.meaning.specs.Machine.{Counter, Item, Stack, times-of, known, bearing, parents-of, ancestors-of, carried, live-at, pairs-of, nearest, up-to}
+use Rattle.meaning.specs.Machine.{Item, times-of, known, bearing, parents-of, ancestors-of, carried, live-at, pairs-of, nearest, up-to}
 use Rattle.demand.specs.Statement.{wordsFrom}
 use Rattle.demand.specs.Words.{flat-gather}
 use Rattle.demand.specs.Rows.{Compiled, rowsProgram, rootsOf, hungOf}
-use Rattle.demand.specs.Decode.{View, hd, pairName, countAt, pairsAt, view, levelAt, itemsAt, stackAt, stackOf, restOf, Tidy, tidy-pm}
+use Rattle.demand.specs.Decode.{View, hd, pairName, pairsAt, view, levelAt, itemsAt, stackAt, stackOf, restOf, Tidy, tidy-pm}
 
 -- Names are equal in `rules` and in `meaning` alike.
 pub same-bytes : (x y : List ℕ) → equalBytes x y ≡ same-name x y

@@ -1,5 +1,5 @@
 -- The program that rows in a store hold: what a call reads there, at any address whatever, as `meaning` speaks of programs.
-use mathlib.Core.Path.{_≡_, refl}
+use mathlib.Core.Path.{_≡_}
 use mathlib.Core.Bool.{Bool, true, false}
 use mathlib.Core.List.{List, [], _∷_, map}
 use Prim.Native.Nat.{ℕ, _+_, _-_, _*_, _≤_}

@@ -1,11 +1,11 @@
 -- The scans over the live instructions are those of the machine that the stores stand for.
-use mathlib.Core.Path.{_≡_, refl, sym, _∙_, ap, subst, fun-ext}
-use mathlib.Core.Bool.{Bool, true, false, cond, not, _&&_}
+use mathlib.Core.Path.{_≡_, refl, sym, _∙_, ap, subst}
+use mathlib.Core.Bool.{Bool, true, false, cond, _&&_}
 use mathlib.Core.List.{List, [], _∷_, _++_}
-use Prim.Native.Nat.{ℕ, zero, suc, _+_, _-_, _*_, _/_, _%_, _<_, _≤_}
+use Prim.Native.Nat.{ℕ, zero, suc, _+_, _-_, _/_, _%_, _<_, _≤_}
 use native.Mathlib.Omega.{arith}
 use native.Mathlib.Numerals.{add-one}
-use lib.ListN.{length, getD}
+use lib.ListN.{length}
 use lib.Dec.{eqb, leb}
 use borrow.Author.Tests.{leb-true}
 use Rattle.names.specs.Names.{nameKey}
@@ -17,20 +17,19 @@ use Rattle.exec.specs.Cursors.{cursorOf, firstCursor, rangeAt, leftIn, ride, in
 use Rattle.exec.specs.CursorLaws.{Own, own-first}
 use Rattle.exec.specs.Instructions.{keyFits, tagPasses, attributePasses, asks}
 use Rattle.exec.specs.Scans as scans
-use Rattle.exec.specs.Scans.{Sought, over, stopped, foundToo, seek, testsTaken, tagScan, allPass, attributeScan}
+use Rattle.exec.specs.Scans.{Sought, over, stopped, foundToo, seek, testsTaken, tagScan, allPass}
 use Rattle.exec.specs.ScanLaws.{testsIn, length-ats, forget, seek-scan, tag-scan-all, attribute-scan-all}
 use Rattle.stack.specs.Stores as stack
-use Rattle.stack.specs.Stores.{Stores, rowWord, countLimit, oneMore, timesOf, heldFound, heldName, heldKind}
+use Rattle.stack.specs.Stores.{Stores, rowWord, countLimit, oneMore, heldFound, heldName, heldKind}
 use Rattle.stack.specs.Laws.{one-more}
 use Rattle.weighing.specs.Weighing.{esiOn, typesCounted}
 use Rattle.course.specs.Course as course
 use Rattle.course.specs.Course.{liveRanges, firstLive, heldCursor, isHtml, childPosition, typePosition, begin, resumed}
 use Rattle.machine.specs.Calls.{flagsOf}
 use Rattle.meaning.specs.Lists.{keep, put-if}
-use Rattle.meaning.specs.Elements.{Tag, html}
-use Rattle.meaning.specs.Machine.{Stack, Scan, done, stuck, found-too, visit, scan, times-of, live-at, number, number-of-name, tag-passes, passes, scan-if}
+use Rattle.meaning.specs.Elements.{Tag}
+use Rattle.meaning.specs.Machine.{Scan, done, stuck, found-too, visit, scan, times-of, live-at, number, number-of-name, passes, scan-if}
 use Rattle.meaning.specs.Machine as meaning
-use Rattle.demand.specs.Sheets.{Lent}
 use Rattle.demand.specs.Rows.{bytesAt, testBytes, Compiled, rowsProgram}
 use Rattle.demand.specs.Decode.{hd, view, pairsAt, levelAt, stackOf, heldTag, restOf, tidy-km, tidy-pm}
 use Rattle.demand.specs.Reading.{times-top, live-all}

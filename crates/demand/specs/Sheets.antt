@@ -1,14 +1,13 @@
 -- A sheet as a program of `meaning`: its tests over attributes as they are lent, the layout of its forest, sets of ids as two words.
-use mathlib.Core.Bool.{Bool}
 use mathlib.Core.List.{List, [], _∷_}
-use Prim.Native.Nat.{ℕ, _<_}
+use Prim.Native.Nat.{ℕ}
 use lib.Dec.{ltb}
 use Rattle.cells.specs.Ids.{idsOf}
 use Rattle.rules.specs.Attributes.{attributesOf}
 use Rattle.sheet.specs.Records.{NodeRecord}
 use Rattle.sheet.specs.Meaning.{sheetTests}
 use Rattle.exec.specs.FoundIds.{withIds}
-use Rattle.meaning.specs.Lists.{_∈_, keep, gather}
+use Rattle.meaning.specs.Lists.{keep, gather}
 use Rattle.meaning.specs.Trees.{Forest}
 use Rattle.meaning.specs.Tests.{Tests}
 use Rattle.meaning.specs.Calls.{Program}

@@ -1,20 +1,20 @@
 -- Sets of ids as words, in the terms of `meaning`: their members listed in rising order, and those of the found nodes.
 use mathlib.Core.Path.{_≡_, refl, sym, ap, _∙_, subst}
-use mathlib.Core.Logic.{_↔_, _⊎_, inl, inr, ⊎-elim}
+use mathlib.Core.Logic.{_↔_}
 use mathlib.Core.Bool.{Bool, true, false, cond, _||_}
 use mathlib.Core.List.{List, [], _∷_, _++_, flatMap}
-use Prim.Native.Nat.{ℕ, zero, suc, _+_, _*_, _/_, _%_, _^_, _<_, _≤_}
+use Prim.Native.Nat.{ℕ, zero, suc, _+_, _/_, _%_, _^_, _<_, _≤_}
 use native.Mathlib.Omega.{arith}
 use native.Mathlib.Nat.{zero-div}
-use borrow.Author.Tests.{eq-eqb, ne-eqb, eqb-true, eqb-false, ltb-true, ltb-false, lt-ltb}
+use borrow.Author.Tests.{eq-eqb, eqb-true, eqb-false, ltb-true, ltb-false}
 use lib.Dec.{T, eqb, ltb}
 use lib.ListN.{length, getD, length-set}
-use Rattle.cells.specs.Ids.{bit, hasId, idsFrom, idsOf, withId}
+use Rattle.cells.specs.Ids.{hasId, idsFrom, idsOf, withId}
 use Rattle.cells.specs.IdLaws as ids
 use Rattle.cells.specs.IdLaws.{member-inside, ids-rise}
 use Rattle.exec.specs.FoundIds.{idsOfNode, withIds, withIdsOf, listed, with-ids-law, gathered-members}
 use Rattle.meaning.specs.Lists.{_∈_, here, there, Rising, keep, gather}
-use Rattle.meaning.specs.ListLaws.{∈-left, ∈-right, ∈-split, keep-mem, mem-keep, gather-mem, mem-gather}
+use Rattle.meaning.specs.ListLaws.{keep-mem, mem-keep, gather-mem, mem-gather}
 
 holds : {b : Bool} → b ≡ true → T b
 holds e = subst T (sym e) tt
