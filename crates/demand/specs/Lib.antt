@@ -2,6 +2,8 @@
 pub mod Words
 pub mod Sheets
 pub mod Statement
+-- A refused call changes nothing.
+pub mod Refused
 -- The bridge: the machine that the stores stand for, and each call on them as its step.
 pub mod Rows
 pub mod Decode
