@@ -3,8 +3,8 @@
 //!
 //!     cargo run --release --offline --example worst_case [ROWS]
 //!
-//! ROWS is how many rows of the damaged store name the dearest record (1,024 unless given); the time grows with them.
-//! Rows that name the record with the two long operands are not run: each takes what that good sheet takes.
+//! ROWS is how many rows of the damaged stores name the dearest record (1,024 unless given). The tests that one call goes over take no
+//! more bytes than the sheet has, so these stores cost no more than a good sheet.
 use selectors_vm::calls::{self, Told};
 use std::fs;
 
@@ -186,6 +186,14 @@ fn main() {
     let stores = Stores::damaged(&damaged, 255, 255);
     run(
         &format!("damaged, {rows} rows of 255 + 255 tests with short operands"),
+        &damaged,
+        stores,
+    );
+
+    let damaged = sheet(rows, &long);
+    let stores = Stores::damaged(&damaged, 0, 2);
+    run(
+        &format!("damaged, {rows} rows of 2 operands of 32,001 bytes"),
         &damaged,
         stores,
     );
