@@ -321,8 +321,9 @@ module _ (C : Compiled) (esi : Bool) where
   abbrev tagOf : ℕ → List ℕ → Tag
   tagOf n name = record { name = map lowerOf name; namespace = n; void = voidName esi name }
 
+  -- What refuses a start tag while none waits: first what its name and namespace and the children do, then 26.
   abbrev gate : Stores → ℕ → List ℕ → ℕ
-  gate s n name = cond (badName name) 20 (cond (ltb 2 n) 21 (cond (leb 2147483647 (stack.children (s .rows))) 25 (cond (pairsFull (s .rows) (s .names) (map lowerOf name)) 26 0)))
+  gate s n name = cond (not (eqb (tagRefusal (s .rows) n name) 0)) (tagRefusal (s .rows) n name) (cond (pairsFull (s .rows) (s .names) (map lowerOf name)) 26 0)
 
   pairs-full : (s : Stores) → Fine s → (x : List ℕ) → pairsFull (s .rows) (s .names) x ≡ (types && not (known x (stackOf s .top .types))) && leb pairLimit (pairs-of P (stackOf s))
   unfolding pairsFull
@@ -333,31 +334,31 @@ module _ (C : Compiled) (esi : Bool) where
       ∙ full-is types (known x (stackOf s .top .types)) (hd s 3)
       ∙ (λ i. (types && not (known x (stackOf s .top .types))) && leb pairLimit (sym q i))
 
-  gate-right : (s : Stores) (f : Fine s) (n : ℕ) (name : List ℕ) → gate s n name ≡ refusing .at-start (weigh P (stackOf s) (tagOf n name)) (tagOf n name)
-  unfolding stack.children levelAt
-  gate-right s f n name = λ i. cond (bad-same name i) 20 (cond (ltb 2 n) 21 (cond (leb 2147483647 (rowWord (s .rows) (hd s 0) 1)) 25 (cond (pairs-full s f (map lowerOf name) i) 26 0)))
+  -- It is section 2's.
+  gate-right : (s : Stores) → Fine s → hd s 4 ≡ 0 → (n : ℕ) (name : List ℕ) → gate s n name ≡ refusing .at-start (weigh P (stackOf s) (tagOf n name)) (tagOf n name)
+  unfolding tagRefusal stack.children levelAt
+  gate-right s f z n name =
+      rw z (go (badName name) (ltb 2 n) (leb 2147483647 (rowWord (s .rows) (hd s 0) 1)) (pairsFull (s .rows) (s .names) (map lowerOf name)))
+      ∙ (λ i. cond (bad-same name i) 20 (cond (ltb 2 n) 21 (cond (leb 2147483647 (rowWord (s .rows) (hd s 0) 1)) 25 (cond (pairs-full s f (map lowerOf name) i) 26 0))))
+    where
+      go : (a b c d : Bool) → _≡_ {A = ℕ} (cond (not (eqb (cond a 20 (cond b 21 (cond c 25 0))) 0)) (cond a 20 (cond b 21 (cond c 25 0))) (cond d 26 0)) (cond a 20 (cond b 21 (cond c 25 (cond d 26 0))))
+      go true b c d = refl
+      go false true c d = refl
+      go false false true d = refl
+      go false false false d = refl
 
   abbrev startIf : ℕ → Stores → List ℕ → ℕ → Outcome
   startIf zero s x kind = tags.begun sheet program s x kind (course.begin sheet program (s .rows) (s .names) (s .nodes) x kind)
   startIf (suc r) s x kind = tags.refusing (suc r) s
 
   start-is : (s : Stores) → Fine s → hd s 4 ≡ 0 → (n : ℕ) (name : List ℕ) → startCall sheet program s n name ≡ startIf (gate s n name) s (map lowerOf name) (kindOf n (voidName esi name))
-  unfolding startCall lowered tagRefusal
-  start-is s f z n name =
-      rw (never-30 s (f .good) (f .header), z, esi-is C esi s (f .good) (f .header))
-      (go (badName name) (ltb 2 n) (leb 2147483647 (stack.children (s .rows))) (pairsFull (s .rows) (s .names) (map lowerOf name)))
+  unfolding startCall lowered
+  start-is s f z n name = rw (never-30 s (f .good) (f .header), esi-is C esi s (f .good) (f .header)) (go (tagRefusal (s .rows) n name) (pairsFull (s .rows) (s .names) (map lowerOf name)))
     where
-      go : (a b c d : Bool) → cond (not (eqb (cond a 20 (cond b 21 (cond c 25 0))) 0)) (tags.refusing (cond a 20 (cond b 21 (cond c 25 0))) s) (cond d (tags.refusing 26 s) (startIf 0 s (map lowerOf name) (kindOf n (voidName esi name))))
-          ≡ startIf (cond a 20 (cond b 21 (cond c 25 (cond d 26 0)))) s (map lowerOf name) (kindOf n (voidName esi name))
-      go true b c d = refl
-      go false true c d = refl
-      go false false true d = refl
-      go false false false true = refl
-      go false false false false = refl
-
-  children-low : (s : Stores) → leb 2147483647 (stack.children (s .rows)) ≡ false → stackOf s .top .children < 2147483647
-  unfolding stack.children levelAt
-  children-low s e = leb-false 2147483647 (rowWord (s .rows) (hd s 0) 1) e
+      go : (r : ℕ) (d : Bool) → cond (not (eqb r 0)) (tags.refusing r s) (cond d (tags.refusing 26 s) (startIf 0 s (map lowerOf name) (kindOf n (voidName esi name)))) ≡ startIf (cond (not (eqb r 0)) r (cond d 26 0)) s (map lowerOf name) (kindOf n (voidName esi name))
+      go zero true = refl
+      go zero false = refl
+      go (suc r) d = rw (ne-eqb (suc r) 0 (λ z. omega arith))
 
   module _ (s : Stores) (f : Fine s) (z : hd s 4 ≡ 0) where
     g : Good types s
@@ -369,7 +370,7 @@ module _ (C : Compiled) (esi : Bool) where
     module _ (x : List ℕ) (kind : ℕ) (hx : length x ≤ nameLimit) (few : stackOf s .top .children < 2147483647) (times : Times (stackOf s)) (spare : Spare (stackOf s) (hd s 3) x) where
       begun-met : (so : Sought) → Stop sheet program (s .nodes) (liveRanges sheet (s .rows)) (nodeCount sheet) (length sheet) so → FitScan (stackOf s) (forgotten C esi s g h so)
           → Met (tagAnswered (tags.begun sheet program s x kind so)) (machine.begun P refusing (stackOf s) (tagAt C esi s g h x kind) (forgotten C esi s g h so))
-      unfolding tags.begun hasContent isHtml
+      unfolding tags.begun hasContent isHtml Stop
       begun-met (over found) st fit = gave s (Machine.ready (stackOf s)) (at-rest s z) f s g h z (tagAt C esi s g h x kind) (content (tagAt C esi s g h x kind) false) found hx few times spare fit
       begun-met (stopped found c) (sm, l, y) fit = waited s g h x kind hx few spare found c sm l y
 
@@ -378,12 +379,12 @@ module _ (C : Compiled) (esi : Bool) where
     opened n name room zero e =
         let x = map lowerOf name in
         let kind = kindOf n (voidName esi name) in
-        let (e1, e2, e3, e4) = gate-chain (badName name) (ltb 2 n) (leb 2147483647 (stack.children (s .rows))) (pairsFull (s .rows) (s .names) x) e in
-        let l = name-fits name e1 in
+        let (e1, e2, e3, e4) = gate-chain (bad-name section-2 x) (ltb 2 n) (leb 2147483647 (stackOf s .top .children)) ((types && not (known x (stackOf s .top .types))) && leb pairLimit (pairs-of P (stackOf s))) (sym (gate-right s f z n name) ∙ e) in
+        let l = name-fits name (bad-same name ∙ e1) in
         let m = length-map name lowerOf in
-        let few = children-low s e3 in
+        let few = leb-false 2147483647 (stackOf s .top .children) e3 in
         let q = pairs-total C s (hd s 0) (hd s 1) (hd s 2) (hd s 3) (g .tidy) in
-        let spare : Spare (stackOf s) (hd s 3) x = λ u k. subst (λ (p : ℕ). p < pairLimit) q (full-of types (known x (stackOf s .top .types)) (pairs-of P (stackOf s)) (sym (pairs-full s f x) ∙ e4) u k) in
+        let spare : Spare (stackOf s) (hd s 3) x = λ u k. subst (λ (p : ℕ). p < pairLimit) q (full-of types (known x (stackOf s .top .types)) (pairs-of P (stackOf s)) e4 u k) in
         let (times, live, light, fit) = room in
         let t = times x in
         let (a, b) = kind-back n (voidName esi name) (ltb-false 2 n e2) in
@@ -461,7 +462,7 @@ module _ (C : Compiled) (esi : Bool) where
   module _ (s : Stores) (f : Fine s) (z : hd s 4 ≡ 0) where
     ready-met : (x : HostCall) → Room (Machine.ready (stackOf s)) (callOf esi x) → Met (called sheet program s x) (step P refusing (Machine.ready (stackOf s)) (callOf esi x))
     ready-met (startTag n name) room =
-        subst (λ r. Met (tagAnswered (startCall sheet program s n name)) (begin-if P refusing r (stackOf s) (tagOf n name))) (gate-right s f n name)
+        subst (λ r. Met (tagAnswered (startCall sheet program s n name)) (begin-if P refusing r (stackOf s) (tagOf n name))) (gate-right s f z n name)
         (subst (λ o. Met (tagAnswered o) (begin-if P refusing (gate s n name) (stackOf s) (tagOf n name))) (sym (start-is s f z n name)) (opened s f z n name room (gate s n name) refl))
     ready-met (tagAttributes b input outlines) room = subst (λ o. Met (tagAnswered o) (refused 23, Machine.ready (stackOf s))) (sym (attributes-early s f z b input outlines)) (record { answer = refl; machine = at-rest s z; fine = f })
     ready-met (endTag name out) room = end-met s f z name out

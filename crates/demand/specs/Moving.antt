@@ -10,7 +10,7 @@ use lib.Dec.{eqb}
 use Rattle.cells.specs.Stretches.{cellsFrom, written, length-written, get-below, get-off, get-on, cells-above, cells-same}
 use Rattle.sheet.specs.Parser.{nodeCount}
 use Rattle.stack.specs.Stores as stack
-use Rattle.stack.specs.Stores.{Stores, stores, openLimit, pairLimit, parentLimit, ancestorLimit, foundLimit, nameLimit, nameSize, idWords, foundFrom, rowsSize, namesSize, idsSize, nodesSize, rowAt, pairAt, nameAt, pairNameAt, idsAt, rowWord, countLimit, timesOf, counted, bearers, newAncestors, childBlock, pushed, backTo, heldKind, heldName, heldFound, held, released, freshRows}
+use Rattle.stack.specs.Stores.{Stores, stores, openLimit, pairLimit, parentLimit, ancestorLimit, foundLimit, nameLimit, nameSize, idWords, foundFrom, rowsSize, namesSize, idsSize, nodesSize, rowAt, pairAt, nameAt, pairNameAt, idsAt, rowWord, countLimit, timesOf, counted, bearers, newAncestors, childBlock, pushed, backHeader, backTo, heldKind, heldName, heldFound, heldWords, held, released, freshWords, freshRows}
 use Rattle.stack.specs.Reads.{push-length, held-below, held-above, held-length, held-word, held-name, held-found, back-above, back-header, back-length, fresh-word, fresh-length}
 use Rattle.exec.specs.declared.cursor.Cursor.{Cursor}
 use Rattle.exec.specs.declared.cursor.Ranges.{Ranges}
@@ -225,7 +225,7 @@ module _ (types : Bool) (s : Stores) (g : Good types s) (x : List ℕ) (kind : �
   w-node : (i : ℕ) → i < foundFrom → getD (w′ .nodes) i 0 ≡ getD (s .nodes) i 0
   w-node i h = get-below (s .nodes) foundFrom found i h
 
-  pub wait-new : (j : ℕ) → j < 8 → getD (w′ .rows) (4 + j) 0 ≡ getD (1 ∷ length x ∷ kind ∷ length found ∷ stage ∷ slot ∷ at ∷ stop ∷ []) j 0
+  pub wait-new : (j : ℕ) → j < 8 → getD (w′ .rows) (4 + j) 0 ≡ getD (heldWords x kind found stage slot at stop) j 0
   wait-new j h = held-word (s .rows) x kind found stage slot at stop (omega (arith, g .rows)) j h
 
   pub wait-same : Same types s w′
@@ -269,7 +269,7 @@ module _ (C : Compiled) (types : Bool) (s : Stores) (g : Good types s) (n q : �
   b-cell : (i : ℕ) → 4 ≤ i → getD (b′ .rows) i 0 ≡ getD (s .rows) i 0
   b-cell i h = back-above (s .rows) q i h
 
-  b-new : (j : ℕ) → j < 4 → getD (b′ .rows) (0 + j) 0 ≡ getD (q ∷ rowWord (s .rows) (q + 1) 2 ∷ rowWord (s .rows) (q + 1) 3 ∷ rowWord (s .rows) (q + 1) 4 ∷ []) j 0
+  b-new : (j : ℕ) → j < 4 → getD (b′ .rows) (0 + j) 0 ≡ getD (backHeader (s .rows) q) j 0
   b-new j h = back-header (s .rows) q (omega (arith, g .rows)) j h
 
   b-tidy : Tidy (view s) (suc (n + q)) (hd s 1) (hd s 2) (hd s 3)
@@ -283,20 +283,14 @@ module _ (C : Compiled) (types : Bool) (s : Stores) (g : Good types s) (n q : �
   b-back : Tidy (view s) q (rowWord (s .rows) (suc q) 2) (rowWord (s .rows) (suc q) 3) (rowWord (s .rows) (suc q) 4)
   b-back = tidy-back (view s) n q (hd s 1) (hd s 2) (hd s 3) b-tidy
 
-  b-1 : hd b′ 1 ≡ rowWord (s .rows) (suc q) 2
-  b-1 = b-new 1 (omega arith) ∙ rw (add-one q)
-
-  b-2 : hd b′ 2 ≡ rowWord (s .rows) (suc q) 3
-  b-2 = b-new 2 (omega arith) ∙ rw (add-one q)
-
-  b-3 : hd b′ 3 ≡ rowWord (s .rows) (suc q) 4
-  b-3 = b-new 3 (omega arith) ∙ rw (add-one q)
-
   pub back-stack : stackOf b′ ≡ pops (rowsProgram C) (suc n) (stackOf s)
   unfolding levelAt
   back-stack =
+      let h1 : hd b′ 1 ≡ rowWord (s .rows) (suc q) 2 = b-new 1 (omega arith) ∙ rw (add-one q) in
+      let h2 : hd b′ 2 ≡ rowWord (s .rows) (suc q) 3 = b-new 2 (omega arith) ∙ rw (add-one q) in
+      let h3 : hd b′ 3 ≡ rowWord (s .rows) (suc q) 4 = b-new 3 (omega arith) ∙ rw (add-one q) in
       let p = tidy-pm (view s) q (rowWord (s .rows) (suc q) 2) (rowWord (s .rows) (suc q) 3) (rowWord (s .rows) (suc q) 4) b-back in
-      (λ i. stackAt (view b′) (b-new 0 (omega arith) i) (b-1 i) (b-2 i) (b-3 i))
+      (λ i. stackAt (view b′) (b-new 0 (omega arith) i) (h1 i) (h2 i) (h3 i))
       ∙ (rw (
         b-cell (rowAt q + 1) (omega arith),
         b-cell (rowAt q + 4) (omega arith),
@@ -309,18 +303,21 @@ module _ (C : Compiled) (types : Bool) (s : Stores) (g : Good types s) (n q : �
   back-good =
       let (x, y, z) = tidy-under (view s) n q (hd s 1) (hd s 2) (hd s 3) b-tidy in
       let h0 = b-new 0 (omega arith) in
+      let h1 : hd b′ 1 ≡ rowWord (s .rows) (suc q) 2 = b-new 1 (omega arith) ∙ rw (add-one q) in
+      let h2 : hd b′ 2 ≡ rowWord (s .rows) (suc q) 3 = b-new 2 (omega arith) ∙ rw (add-one q) in
+      let h3 : hd b′ 3 ≡ rowWord (s .rows) (suc q) 4 = b-new 3 (omega arith) ∙ rw (add-one q) in
       record {
         rows = rw (back-length (s .rows) q) (g .rows);
         names = g .names;
         ids = g .ids;
         nodes = g .nodes;
         deep = rw h0 (omega (arith, g .deep));
-        kt = rw b-1 (omega (arith, g .kt));
-        at = rw b-2 (omega (arith, g .at));
-        pt = rw b-3 (omega (arith, g .pt));
-        tidy = rw (h0, b-1, b-2, b-3) (tidy-alike (view s) (view b′) q (rowWord (s .rows) (suc q) 2) (rowWord (s .rows) (suc q) 3) (rowWord (s .rows) (suc q) 4) b-alike q (rowWord (s .rows) (suc q) 2) (rowWord (s .rows) (suc q) 3) (rowWord (s .rows) (suc q) 4) (omega arith) b-back);
-        short = λ i h. let k : i < rowWord (s .rows) (suc q) 4 = rw b-3 at h in rw (b-cell (pairAt i) (omega arith)) (g .short i (omega arith));
-        plain = λ t. let k = g .plain t in b-3 ∙ omega arith;
+        kt = rw h1 (omega (arith, g .kt));
+        at = rw h2 (omega (arith, g .at));
+        pt = rw h3 (omega (arith, g .pt));
+        tidy = rw (h0, h1, h2, h3) (tidy-alike (view s) (view b′) q (rowWord (s .rows) (suc q) 2) (rowWord (s .rows) (suc q) 3) (rowWord (s .rows) (suc q) 4) b-alike q (rowWord (s .rows) (suc q) 2) (rowWord (s .rows) (suc q) 3) (rowWord (s .rows) (suc q) 4) (omega arith) b-back);
+        short = λ i h. let k : i < rowWord (s .rows) (suc q) 4 = rw h3 at h in rw (b-cell (pairAt i) (omega arith)) (g .short i (omega arith));
+        plain = λ t. let k = g .plain t in h3 ∙ omega arith;
       }
 
   pub back-rest : (i : ℕ) → 4 ≤ i → i < 16 → hd b′ i ≡ hd s i
@@ -331,7 +328,7 @@ module _ (C : Compiled) (esi : Bool) (s : Stores) (fr : rowsSize ≤ length (s .
   abbrev f′ : Stores
   f′ = stores (freshRows (s .rows) madeMark (length (C .sheet)) (flagsOf esi (C .types))) (s .names) (s .ids) (s .nodes)
 
-  f-at : (j : ℕ) → j < 24 → getD (f′ .rows) (0 + j) 0 ≡ getD (0 ∷ 0 ∷ 0 ∷ 0 ∷ 0 ∷ 0 ∷ 0 ∷ 0 ∷ 0 ∷ 0 ∷ 0 ∷ 0 ∷ madeMark ∷ length (C .sheet) ∷ flagsOf esi (C .types) ∷ 0 ∷ 0 ∷ 0 ∷ 0 ∷ 0 ∷ 0 ∷ 0 ∷ 0 ∷ 0 ∷ []) j 0
+  f-at : (j : ℕ) → j < 24 → getD (f′ .rows) (0 + j) 0 ≡ getD (freshWords madeMark (length (C .sheet)) (flagsOf esi (C .types))) j 0
   f-at j h = fresh-word (s .rows) madeMark (length (C .sheet)) (flagsOf esi (C .types)) (omega arith) j h
 
   pub fresh-good : Good (C .types) f′

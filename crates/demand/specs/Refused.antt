@@ -1,9 +1,10 @@
--- DEMAND 1, its last sentence: whatever bytes the stores hold, a refused call hands out no id and leaves every store and buffer as it was.
+-- DEMAND 1, its last sentence: whatever bytes the stores hold, a refused call hands out no id and leaves every store and buffer as it was. Nor does a tag that begins to wait hand out an id.
 use mathlib.Core.Path.{_≡_, refl, sym, _∙_, ap, subst}
 use mathlib.Core.Logic.{_⊎_, inl, inr}
 use mathlib.Core.Bool.{Bool, true, false, cond, not}
 use mathlib.Core.List.{List, map}
 use Prim.Native.Nat.{ℕ, _*_}
+use native.Mathlib.Omega.{arith}
 use lib.Dec.{T, eqb, ltb}
 use lib.ListN.{length}
 use Rattle.names.specs.Bytes.{lowerOf}
@@ -16,14 +17,14 @@ use Rattle.exec.specs.Scans.{Sought, over, stopped}
 use Rattle.weighing.specs.Weighing.{esiOn, sized, stateRefusal, tagRefusal, pairsFull, pushRefusal, attributesRefusal, endRefusal}
 use Rattle.course.specs.Course.{kindOf, hasContent, begin, resumed}
 use Rattle.tags.specs.declared.Answer.{Answer}
-use Rattle.tags.specs.Tags.{Outcome, refusing, accepted, whole, begun, lowered, given}
+use Rattle.tags.specs.Tags.{Outcome, outcome, noIds, reply, refusing, accepted, whole, begun, lowered, given}
 use Rattle.machine.specs.declared.Made.{Made}
 use Rattle.machine.specs.declared.Popped.{Popped}
 use Rattle.machine.specs.Calls.{Ended, ended, popping, Fresh, startCall, attributesCall, endCall, freshOf, freshCall}
 
--- If the answer is a refusal, the outcome is that refusal with no id, and the stores that came in.
+-- If the answer is a refusal, the outcome is that refusal with no id, and the stores that came in; if attributes are asked for, no id goes out yet.
 abbrev pub Kept : Stores → Outcome → Type 0
-Kept s o = (number : ℕ) → o .reply .answer ≡ Answer.Refused number → o ≡ refusing number s
+Kept s o = ((number : ℕ) → o .reply .answer ≡ Answer.Refused number → o ≡ refusing number s) × (o .reply .answer ≡ Answer.Attributes → o .reply .ids ≡ noIds)
 
 -- The same for an end tag: the rows and the buffer that came in (no other store is lent to be written).
 abbrev pub EndKept : (rows out : List ℕ) → Ended → Type 0
@@ -35,21 +36,27 @@ FreshKept program rows o = (o .made ≡ Made.Made) ⊎ ((o .program ≡ program)
 
 -- ---- the answers apart
 
-abbrev isRefused : Answer → Bool
-isRefused (Answer.Refused number) = true
-isRefused (Answer.Match content) = false
-isRefused Answer.Attributes = false
+abbrev sortOf : Answer → ℕ
+sortOf (Answer.Match content) = 0
+sortOf Answer.Attributes = 1
+sortOf (Answer.Refused number) = 2
 
 abbrev numberOf : Answer → ℕ
 numberOf (Answer.Refused number) = number
 numberOf (Answer.Match content) = 0
 numberOf Answer.Attributes = 0
 
-answered-kept : (s : Stores) (o : Outcome) → isRefused (o .reply .answer) ≡ false → Kept s o
-answered-kept s o f number e = absurd (subst T (sym (ap isRefused e) ∙ f) tt)
+other-sort : {a b : Answer} → (sortOf a ≡ sortOf b → ⊥) → a ≡ b → ⊥
+other-sort n e = n (ap sortOf e)
+
+matched-kept : (s after : Stores) (content : Bool) (ids : List ℕ) → Kept s (outcome (reply (Answer.Match content) ids) after)
+matched-kept s after content ids = (λ number e. absurd (other-sort (λ z. omega arith) e), λ e. absurd (other-sort (λ z. omega arith) e))
+
+asking-kept : (s after : Stores) → Kept s (outcome (reply Answer.Attributes noIds) after)
+asking-kept s after = (λ number e. absurd (other-sort (λ z. omega arith) e), λ e. refl)
 
 refusing-kept : (number : ℕ) (s : Stores) → Kept s (refusing number s)
-refusing-kept number s n e = ap (λ (k : ℕ). refusing k s) (ap numberOf e)
+refusing-kept number s = (λ n e. ap (λ (k : ℕ). refusing k s) (ap numberOf e), λ e. refl)
 
 either-kept : (b : Bool) (s : Stores) (x y : Outcome) → Kept s x → Kept s y → Kept s (cond b x y)
 either-kept true s x y p q = p
@@ -60,12 +67,12 @@ module _ (sheet program : List ℕ) where
   unfolding whole accepted
   whole-kept old s name content found =
       either-kept (not (eqb (pushRefusal sheet program (s .rows) content found) 0)) old (refusing (pushRefusal sheet program (s .rows) content found) old) (accepted sheet program s name content found)
-      (refusing-kept (pushRefusal sheet program (s .rows) content found) old) (answered-kept old (accepted sheet program s name content found) refl)
+      (refusing-kept (pushRefusal sheet program (s .rows) content found) old) (matched-kept old _ content _)
 
   begun-kept : (s : Stores) (name : List ℕ) (kind : ℕ) (so : Sought) → Kept s (begun sheet program s name kind so)
   unfolding begun
   begun-kept s name kind (over found) = whole-kept s s name (hasContent kind false) found
-  begun-kept s name kind (stopped found c) = answered-kept s (begun sheet program s name kind (stopped found c)) refl
+  begun-kept s name kind (stopped found c) = asking-kept s _
 
   lowered-kept : (s : Stores) (name : List ℕ) (kind : ℕ) → Kept s (lowered sheet program s name kind)
   unfolding lowered

@@ -87,21 +87,26 @@ all-first program nodes m slot roots h a b c d =
 
 -- ---- where a scan stops: a small cursor; what was found and what is left are at most what was live, and so are the bytes of its tests
 module _ (sheet program nodes : List ℕ) (m : Ranges) where
-  abbrev pub Stop : ℕ → ℕ → Sought → Type 0
+  unfoldable pub Stop : ℕ → ℕ → Sought → Type 0
   Stop n b (over found) = length found ≤ n
   Stop n b (stopped found c) = Small c × (length found + length (rest program nodes m c) ≤ n) × (testBytes sheet program (ats (rest program nodes m c)) ≤ b)
 
   pub stop-more : (n k a b : ℕ) (s : Sought) → n ≤ k → a ≤ b → Stop n a s → Stop k b s
+  unfolding Stop
   stop-more n k a b (over found) l r h = omega arith
   stop-more n k a b (stopped found c) l r (x, h, y) = (x, omega arith, omega arith)
 
+  pub stop-either : (n b : ℕ) (c : Bool) (x y : Sought) → Stop n b x → Stop n b y → Stop n b (cond c x y)
+  stop-either n b true x y h k = h
+  stop-either n b false x y h k = k
+
   stop-found : (n b a : ℕ) (s : Sought) → Stop n b s → Stop (suc n) b (foundToo a s)
-  unfolding foundToo
+  unfolding foundToo Stop
   stop-found n b a (over found) h = omega arith
   stop-found n b a (stopped found c) (x, h, y) = (x, omega arith, y)
 
   pub seek-stop : (p q : ℕ → Bool) (cs : List Cursor) → Own program nodes m cs → AllSmall cs → Stop (length cs) (testBytes sheet program (ats cs)) (seek p q cs)
-  unfolding seek
+  unfolding seek Stop
   seek-stop p q [] o a = omega arith
   seek-stop p q (c ∷ cs) (e, o) (a, as′) = go (p (c .at)) (q (c .at)) (seek-stop p q cs o as′)
     where
@@ -207,6 +212,10 @@ module _ (C : Compiled) (esi : Bool) (s : Stores) (g : Good (C .types) s) (h : H
     rest-light : testBytes sheet program (ats (restOf sheet program s first)) ≤ length sheet
     rest-light = let k = ap (testBytes sheet program) (live-all C s (g .tidy)) in omega arith
 
+    stop-first : Stop sheet program (s .nodes) (liveRanges sheet (s .rows)) (nodeCount sheet) (length sheet) (stopped [] first)
+    unfolding Stop firstCursor
+    stop-first = let r = rest-fits in let y = rest-light in let l = slot-low in let a = C .roots-fit in let b = C .few in let c = g .kt in ((omega arith, omega arith, omega arith), omega arith, y)
+
     module _ (x : List ℕ) (kind : ℕ) where
       scan-all : tagScan sheet program (s .nodes) (liveRanges sheet (s .rows)) x (nameKey x) (childPosition (s .rows)) (typePosition (s .rows) (s .names) x) first (nodeCount sheet) (length sheet)
           ≡ seek (tagPasses sheet program x (nameKey x) (childPosition (s .rows)) (typePosition (s .rows) (s .names) x)) (asks program) (restOf sheet program s first)
@@ -215,15 +224,13 @@ module _ (C : Compiled) (esi : Bool) (s : Stores) (g : Good (C .types) s) (h : H
       -- The first scan stops in good order.
       pub begin-stop : Stop sheet program (s .nodes) (liveRanges sheet (s .rows)) (nodeCount sheet) (length sheet) (course.begin sheet program (s .rows) (s .names) (s .nodes) x kind)
       unfolding begin firstCursor
-      begin-stop = go (isHtml kind)
-        where
-          go : (b : Bool) → Stop sheet program (s .nodes) (liveRanges sheet (s .rows)) (nodeCount sheet) (length sheet) (cond b (tagScan sheet program (s .nodes) (liveRanges sheet (s .rows)) x (nameKey x) (childPosition (s .rows)) (typePosition (s .rows) (s .names) x) first (nodeCount sheet) (length sheet)) (stopped [] first))
-          go true =
-              let p = tagPasses sheet program x (nameKey x) (childPosition (s .rows)) (typePosition (s .rows) (s .names) x) in
-              subst (Stop sheet program (s .nodes) (liveRanges sheet (s .rows)) (nodeCount sheet) (length sheet)) (sym scan-all)
-              (stop-more sheet program (s .nodes) (liveRanges sheet (s .rows)) (length (restOf sheet program s first)) (nodeCount sheet) (testBytes sheet program (ats (restOf sheet program s first))) (length sheet) (seek p (asks program) (restOf sheet program s first)) rest-fits rest-light
-              (seek-stop sheet program (s .nodes) (liveRanges sheet (s .rows)) p (asks program) (restOf sheet program s first) own all-small))
-          go false = let r = rest-fits in let y = rest-light in let l = slot-low in let a = C .roots-fit in let b = C .few in let c = g .kt in ((omega arith, omega arith, omega arith), omega arith, y)
+      begin-stop =
+          let p = tagPasses sheet program x (nameKey x) (childPosition (s .rows)) (typePosition (s .rows) (s .names) x) in
+          stop-either sheet program (s .nodes) (liveRanges sheet (s .rows)) (nodeCount sheet) (length sheet) (isHtml kind) _ _
+          (subst (Stop sheet program (s .nodes) (liveRanges sheet (s .rows)) (nodeCount sheet) (length sheet)) (sym scan-all)
+          (stop-more sheet program (s .nodes) (liveRanges sheet (s .rows)) (length (restOf sheet program s first)) (nodeCount sheet) (testBytes sheet program (ats (restOf sheet program s first))) (length sheet) (seek p (asks program) (restOf sheet program s first)) rest-fits rest-light
+          (seek-stop sheet program (s .nodes) (liveRanges sheet (s .rows)) p (asks program) (restOf sheet program s first) own all-small)))
+          stop-first
 
       module _ (few : stackOf s .top .children < countLimit) (rare : times-of x (stackOf s .top .types) < countLimit) where
         -- It is the machine's.

@@ -6,7 +6,7 @@ use Prim.Native.Nat.{ℕ, _+_, _-_, _<_, _≤_}
 use native.Mathlib.Omega.{arith}
 use lib.ListN.{length, getD}
 use Rattle.cells.specs.Stretches.{written, length-written, get-below, get-above, get-in, get-off, get-on, cells-in}
-use Rattle.stack.specs.Stores.{headerSize, rowSize, rowAt, pairAt, pairNameAt, nameAt, foundFrom, opens, parentsTop, ancestorsTop, pairsTop, rowWord, children, oneMore, pairOf, known, timesOf, nameCountedRows, nameCountedNames, countedRows, withRow, backTo, heldName, heldFound, heldRows, freshRows}
+use Rattle.stack.specs.Stores.{headerSize, rowSize, rowAt, pairAt, pairNameAt, nameAt, foundFrom, opens, parentsTop, ancestorsTop, pairsTop, rowWord, children, oneMore, pairOf, known, timesOf, nameCountedRows, nameCountedNames, countedRows, withRow, backHeader, backTo, heldName, heldFound, heldWords, heldRows, freshWords, freshRows}
 
 -- ---- a push: the new row and the header; rows below it, pairs and the rest of the header stay
 module _ (rows : List ℕ) (n k parents ancestors : ℕ) where
@@ -99,37 +99,34 @@ module _ (rows names x : List ℕ) (new : known rows names x ≡ false) where
 module _ (rows : List ℕ) (k : ℕ) where
   pub back-above : (i : ℕ) → 4 ≤ i → getD (backTo rows k) i 0 ≡ getD rows i 0
   unfolding backTo
-  back-above i h = get-above rows 0 (k ∷ rowWord rows (k + 1) 2 ∷ rowWord rows (k + 1) 3 ∷ rowWord rows (k + 1) 4 ∷ []) i (omega arith)
+  back-above i h = get-above rows 0 (backHeader rows k) i (omega arith)
 
-  pub back-header : headerSize ≤ length rows → (j : ℕ) → j < 4 → getD (backTo rows k) (0 + j) 0 ≡ getD (k ∷ rowWord rows (k + 1) 2 ∷ rowWord rows (k + 1) 3 ∷ rowWord rows (k + 1) 4 ∷ []) j 0
+  pub back-header : headerSize ≤ length rows → (j : ℕ) → j < 4 → getD (backTo rows k) (0 + j) 0 ≡ getD (backHeader rows k) j 0
   unfolding backTo
-  back-header room j h = get-in rows 0 (k ∷ rowWord rows (k + 1) 2 ∷ rowWord rows (k + 1) 3 ∷ rowWord rows (k + 1) 4 ∷ []) j h (omega arith)
+  back-header room j h = get-in rows 0 (backHeader rows k) j h (omega arith)
 
   pub back-length : length (backTo rows k) ≡ length rows
   unfolding backTo
-  back-length = length-written rows 0 (k ∷ rowWord rows (k + 1) 2 ∷ rowWord rows (k + 1) 3 ∷ rowWord rows (k + 1) 4 ∷ [])
+  back-length = length-written rows 0 (backHeader rows k)
 
 -- ---- the waiting record reads back as it was written; the stack's words stay
 module _ (rows : List ℕ) (x : List ℕ) (kind : ℕ) (found : List ℕ) (stage slot at stop : ℕ) where
-  abbrev record′ : List ℕ
-  record′ = 1 ∷ length x ∷ kind ∷ length found ∷ stage ∷ slot ∷ at ∷ stop ∷ []
-
   pub held-below : (i : ℕ) → i < 4 → getD (heldRows rows x kind found stage slot at stop) i 0 ≡ getD rows i 0
   unfolding heldRows
-  held-below i h = get-below rows 4 record′ i h
+  held-below i h = get-below rows 4 (heldWords x kind found stage slot at stop) i h
 
   pub held-above : (i : ℕ) → 12 ≤ i → getD (heldRows rows x kind found stage slot at stop) i 0 ≡ getD rows i 0
   unfolding heldRows
-  held-above i h = get-above rows 4 record′ i (omega arith)
+  held-above i h = get-above rows 4 (heldWords x kind found stage slot at stop) i (omega arith)
 
   pub held-length : length (heldRows rows x kind found stage slot at stop) ≡ length rows
   unfolding heldRows
-  held-length = length-written rows 4 record′
+  held-length = length-written rows 4 (heldWords x kind found stage slot at stop)
 
   module _ (room : headerSize ≤ length rows) where
-    pub held-word : (j : ℕ) → j < 8 → getD (heldRows rows x kind found stage slot at stop) (4 + j) 0 ≡ getD (1 ∷ length x ∷ kind ∷ length found ∷ stage ∷ slot ∷ at ∷ stop ∷ []) j 0
+    pub held-word : (j : ℕ) → j < 8 → getD (heldRows rows x kind found stage slot at stop) (4 + j) 0 ≡ getD (heldWords x kind found stage slot at stop) j 0
     unfolding heldRows
-    held-word j h = get-in rows 4 record′ j h (omega arith)
+    held-word j h = get-in rows 4 (heldWords x kind found stage slot at stop) j h (omega arith)
 
     pub held-name : (names : List ℕ) → length x ≤ length names → heldName (heldRows rows x kind found stage slot at stop) (written names (nameAt 0) x) ≡ x
     held-name names h = rw (held-word 1 (omega arith)) (cells-in names 0 x (omega arith))
@@ -139,13 +136,10 @@ module _ (rows : List ℕ) (x : List ℕ) (kind : ℕ) (found : List ℕ) (stage
 
 -- ---- a fresh machine: header and root row as listed; all else stays
 module _ (rows : List ℕ) (mark sheet flags : ℕ) where
-  abbrev fresh-words : List ℕ
-  fresh-words = 0 ∷ 0 ∷ 0 ∷ 0 ∷ 0 ∷ 0 ∷ 0 ∷ 0 ∷ 0 ∷ 0 ∷ 0 ∷ 0 ∷ mark ∷ sheet ∷ flags ∷ 0 ∷ 0 ∷ 0 ∷ 0 ∷ 0 ∷ 0 ∷ 0 ∷ 0 ∷ 0 ∷ []
-
-  pub fresh-word : headerSize + rowSize ≤ length rows → (j : ℕ) → j < 24 → getD (freshRows rows mark sheet flags) (0 + j) 0 ≡ getD (0 ∷ 0 ∷ 0 ∷ 0 ∷ 0 ∷ 0 ∷ 0 ∷ 0 ∷ 0 ∷ 0 ∷ 0 ∷ 0 ∷ mark ∷ sheet ∷ flags ∷ 0 ∷ 0 ∷ 0 ∷ 0 ∷ 0 ∷ 0 ∷ 0 ∷ 0 ∷ 0 ∷ []) j 0
+  pub fresh-word : headerSize + rowSize ≤ length rows → (j : ℕ) → j < 24 → getD (freshRows rows mark sheet flags) (0 + j) 0 ≡ getD (freshWords mark sheet flags) j 0
   unfolding freshRows
-  fresh-word room j h = get-in rows 0 fresh-words j h (omega arith)
+  fresh-word room j h = get-in rows 0 (freshWords mark sheet flags) j h (omega arith)
 
   pub fresh-length : length (freshRows rows mark sheet flags) ≡ length rows
   unfolding freshRows
-  fresh-length = length-written rows 0 fresh-words
+  fresh-length = length-written rows 0 (freshWords mark sheet flags)

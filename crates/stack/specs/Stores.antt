@@ -231,8 +231,11 @@ unfoldable pub poppedCount : List ℕ → List ℕ → List ℕ → ℕ
 poppedCount rows names x = through (opens rows) (nearest rows names x (opens rows))
 
 -- The header when the first k elements stay open: the tops are those in the row of the outermost popped.
+abbrev pub backHeader : List ℕ → ℕ → List ℕ
+backHeader rows k = k ∷ rowWord rows (k + 1) 2 ∷ rowWord rows (k + 1) 3 ∷ rowWord rows (k + 1) 4 ∷ []
+
 unfoldable pub backTo : List ℕ → ℕ → List ℕ
-backTo rows k = written rows 0 (k ∷ rowWord rows (k + 1) 2 ∷ rowWord rows (k + 1) 3 ∷ rowWord rows (k + 1) 4 ∷ [])
+backTo rows k = written rows 0 (backHeader rows k)
 
 -- So many elements are popped.
 unfoldable pub poppedRows : List ℕ → ℕ → List ℕ
@@ -263,8 +266,11 @@ abbrev pub heldFound : List ℕ → List ℕ → List ℕ
 heldFound rows nodes = cellsFrom nodes foundFrom (getD rows 7 0)
 
 -- A tag begins to wait: its name, its kind, the nodes found so far, and where to go on.
+abbrev pub heldWords : (name : List ℕ) (kind : ℕ) (found : List ℕ) (stage slot at stop : ℕ) → List ℕ
+heldWords x kind found stage slot at stop = 1 ∷ length x ∷ kind ∷ length found ∷ stage ∷ slot ∷ at ∷ stop ∷ []
+
 unfoldable pub heldRows : List ℕ → (name : List ℕ) (kind : ℕ) (found : List ℕ) (stage slot at stop : ℕ) → List ℕ
-heldRows rows x kind found stage slot at stop = written rows 4 (1 ∷ length x ∷ kind ∷ length found ∷ stage ∷ slot ∷ at ∷ stop ∷ [])
+heldRows rows x kind found stage slot at stop = written rows 4 (heldWords x kind found stage slot at stop)
 
 abbrev pub held : Stores → (name : List ℕ) (kind : ℕ) (found : List ℕ) (stage slot at stop : ℕ) → Stores
 held s x kind found stage slot at stop = stores (heldRows (s .rows) x kind found stage slot at stop) (written (s .names) (nameAt 0) x) (s .ids) (written (s .nodes) foundFrom found)
@@ -277,11 +283,13 @@ abbrev pub released : Stores → Stores
 released s = stores (releasedRows (s .rows)) (s .names) (s .ids) (s .nodes)
 
 -- ---- A fresh machine: nothing open, nothing counted, nothing waits; header words 12 to 14 are the mark, the length of the sheet and the flags.
+abbrev pub freshWords : (mark sheet flags : ℕ) → List ℕ
+freshWords mark sheet flags =
+    0 ∷ 0 ∷ 0 ∷ 0 ∷ 0 ∷ 0 ∷ 0 ∷ 0 ∷ 0 ∷ 0 ∷ 0 ∷ 0 ∷ mark ∷ sheet ∷ flags ∷ 0 ∷
+    0 ∷ 0 ∷ 0 ∷ 0 ∷ 0 ∷ 0 ∷ 0 ∷ 0 ∷ []
+
 unfoldable pub freshRows : List ℕ → (mark sheet flags : ℕ) → List ℕ
-freshRows rows mark sheet flags =
-    written rows 0
-    (0 ∷ 0 ∷ 0 ∷ 0 ∷ 0 ∷ 0 ∷ 0 ∷ 0 ∷ 0 ∷ 0 ∷ 0 ∷ 0 ∷ mark ∷ sheet ∷ flags ∷ 0 ∷
-    0 ∷ 0 ∷ 0 ∷ 0 ∷ 0 ∷ 0 ∷ 0 ∷ 0 ∷ [])
+freshRows rows mark sheet flags = written rows 0 (freshWords mark sheet flags)
 
 abbrev pub fresh : Stores → (mark sheet flags : ℕ) → Stores
 fresh s mark sheet flags = stores (freshRows (s .rows) mark sheet flags) (s .names) (s .ids) (s .nodes)
