@@ -12,9 +12,7 @@ use Rattle.cells.specs.Numbers.{part}
 use Rattle.names.specs.Bytes.{fold, sameBytes}
 use Rattle.names.specs.BytesLaws.{fold-false}
 use Rattle.rules.specs.Attributes.{attributesOf, liesWithin, wellFormed, lookup, findIn}
-use Rattle.rules.specs.Operators.{operatorHolds}
 use Rattle.rules.specs.declared.attribute_matcher.Found.{Found}
-use Rattle.rules.specs.declared.attribute_matcher.Operator.{Operator}
 
 next : (l : List ℕ) (i j : ℕ) → j ≡ i + 1 → i < length l → drop i l ≡ getD l i 0 ∷ drop j l
 next l i j e h = rw (e, add-one i) (drop-cons l i 0 h)
@@ -88,7 +86,3 @@ lookup-is input wanted (a ∷ (b ∷ (c ∷ (d ∷ m)))) = found-by input (sameB
 
 pub found-is : (input wanted l : List ℕ) (found known : Found) → found ≡ findIn input wanted l → found ≡ known → valueAt input known ≡ lookup wanted (attributesOf input l)
 found-is input wanted l found known p q = ap (valueAt input) (sym q ∙ p) ∙ lookup-is input wanted l
-
--- the answer for the operator that a `match` has found
-pub operator-is : (operator known : Operator) (f : Bool) (value operand : List ℕ) (r : Bool) → operator ≡ known → r ≡ operatorHolds known f value operand → r ≡ operatorHolds operator f value operand
-operator-is operator known f value operand r e h = rw e h

@@ -29,7 +29,6 @@ use denote.Slice.{sliceVal, ShrSlice, slice-vals, shr-slice-tells, shr-slice-law
 use denote.Steps.{nothing}
 use denote.Struct.Laws as LL
 use denote.Triple.Statement.{Contract, Triple}
-use denote.Triple.Clauses.{Clauses}
 use denote.Triple.Table.{entered, cited}
 use Rattle.rules.specs.Attributes.{attributesOf}
 use Rattle.node_tests.specs.Tests.{attributeTestHolds, readAttributeTest}

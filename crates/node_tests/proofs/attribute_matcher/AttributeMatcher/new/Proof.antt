@@ -25,7 +25,7 @@ use denote.Ref.{RefT}
 use denote.Signature.{namedLft}
 use denote.Slice.{sliceVal, ShrSlice, slice-vals, shr-slice-tells, shr-slice-lawful}
 use denote.Struct.Rest.{own-shut}
-use denote.Triple.Statement.{Contract, Triple}
+use denote.Triple.Statement.{Triple}
 use denote.Triple.Entry.{alive}
 use denote.Triple.Clauses.{Clauses}
 use denote.Triple.Table.{entered}
