@@ -63,34 +63,34 @@ module _ {M : Type 1} (𝓤 : URA M) (H : Heap 𝓤) (A : Atoms 𝓤) (W : Given
   abbrev asked : Clauses 𝓤 callee.ended
   asked = callee.clauses 𝓤 H A mem run
 
-  module _ (κs : Lfts 3) (qs : Shares 3) (d : AttributeMatcher) (x : RefT (List ℕ)) where
-    -- the machine values of the struct and of the test
-    abbrev u : Val
-    u = T′.lowered d
+  module _ (C : Calls 𝓤 H) (Λ : Loops 𝓤 H) (fm : FmC 𝓤 H (W .laws) C) (known : Triple 𝓤 (C #callee) (Thin 𝓤 H A callee.ended asked)) where
+    module _ (κs : Lfts 3) (qs : Shares 3) (d : AttributeMatcher) (x : RefT (List ℕ)) where
+      -- the machine values of the struct and of the test
+      abbrev u : Val
+      u = T′.lowered d
 
-    abbrev v : Val
-    v = sliceVal (x .ptr) (length (x .now))
+      abbrev v : Val
+      v = sliceVal (x .ptr) (length (x .now))
 
-    abbrev Held : Bool → Type 0
-    Held r = r ≡ attributeTestHolds (d .html) (attributesOf (now (d .input)) (now (d .outlines))) (readAttributeTest (now x))
+      abbrev Held : Bool → Type 0
+      Held r = r ≡ attributeTestHolds (d .html) (attributesOf (now (d .input)) (now (d .outlines))) (readAttributeTest (now x))
 
-    abbrev this : Thin 𝓤 H A me.ended clauses .Ghost
-    this = ((κs, qs, tt, (d, (x, tt)), (u ∷ [], (v ∷ [], tt))), tt)
+      abbrev this : Thin 𝓤 H A me.ended clauses .Ghost
+      this = ((κs, qs, tt, (d, (x, tt)), (u ∷ [], (v ∷ [], tt))), tt)
 
-    -- what the callee is passed
-    abbrev to : Thin 𝓤 H A callee.ended asked .Ghost
-    to = ((κs, qs, tt, (d .input, (d .outlines, (d .html, (x, tt)))), (sliceVal (d .input .ptr) (length (d .input .now)) ∷ [], (sliceVal (d .outlines .ptr) (length (d .outlines .now)) ∷ [], (vbool (d .html) ∷ [], (v ∷ [], tt))))), tt)
+      -- what the callee is passed
+      abbrev to : Thin 𝓤 H A callee.ended asked .Ghost
+      to = ((κs, qs, tt, (d .input, (d .outlines, (d .html, (x, tt)))), (sliceVal (d .input .ptr) (length (d .input .now)) ∷ [], (sliceVal (d .outlines .ptr) (length (d .outlines .now)) ∷ [], (vbool (d .html) ∷ [], (v ∷ [], tt))))), tt)
 
-    -- what the struct and the test own is what the callee's parameters own
-    apart : ent 𝓤 (Entry 𝓤 H A me.ended clauses this) (Entry 𝓤 H A callee.ended asked to)
-    apart =
-        qed W (raw (alive 𝓤 H A me.signature κs qs) ∷ ‵ (owns (T.the-row (namedLft 3 0 tt κs) (namedLft 3 1 tt κs) ∷ ShrSlice (named 2) (κs .1 .1 .0) u8 ∷ []) (d, (x, tt)) (u ∷ [], (v ∷ [], tt))) ∷ []) ∵ frame ! $ fsplit ! $
-        use1 W (given (u ∷ [] ≡ u ∷ []) (‵ (all-own (D κs .parts) (L κs) (d .input, (d .outlines, (d .html, tt)))))) (own-open 𝓤 H A W (D κs) (L κs) (d .input, (d .outlines, (d .html, tt))) u) $ learn ! (λ _.
-        fsplit ! $ move ! (1 ∷ []) $ fsplit ! $ move ! (1 ∷ []) $ fsplit ! $ move ! (1 ∷ []) $ drop ! $
-        -- [html; outlines; input; the test]
-        move ! (0 ∷ 3 ∷ []) $ fjoin ! $ move ! (1 ∷ 0 ∷ []) $ fjoin ! $ move ! (1 ∷ 0 ∷ []) $ fjoin ! $ done !)
+      -- what the struct and the test own is what the callee's parameters own
+      apart : ent 𝓤 (Entry 𝓤 H A me.ended clauses this) (Entry 𝓤 H A callee.ended asked to)
+      apart =
+          qed W (raw (alive 𝓤 H A me.signature κs qs) ∷ ‵ (owns (T.the-row (namedLft 3 0 tt κs) (namedLft 3 1 tt κs) ∷ ShrSlice (named 2) (κs .1 .1 .0) u8 ∷ []) (d, (x, tt)) (u ∷ [], (v ∷ [], tt))) ∷ []) ∵ frame ! $ fsplit ! $
+          use1 W (given (u ∷ [] ≡ u ∷ []) (‵ (all-own (D κs .parts) (L κs) (d .input, (d .outlines, (d .html, tt)))))) (own-open 𝓤 H A W (D κs) (L κs) (d .input, (d .outlines, (d .html, tt))) u) $ learn ! (λ _.
+          fsplit ! $ move ! (1 ∷ []) $ fsplit ! $ move ! (1 ∷ []) $ fsplit ! $ move ! (1 ∷ []) $ drop ! $
+          -- [html; outlines; input; the test]
+          move ! (0 ∷ 3 ∷ []) $ fjoin ! $ move ! (1 ∷ 0 ∷ []) $ fjoin ! $ move ! (1 ∷ 0 ∷ []) $ fjoin ! $ done !)
 
-    module _ (C : Calls 𝓤 H) (Λ : Loops 𝓤 H) (fm : FmC 𝓤 H (W .laws) C) (known : Triple 𝓤 (C #callee) (Thin 𝓤 H A callee.ended asked)) where
       walk : Holds (hasTy (T′.mir (named 0) (named 1)) u) × WT u → Is (ShrSlice (named 2) (κs .1 .1 .0) u8) x (v ∷ []) → ent 𝓤 (Entry 𝓤 H A me.ended clauses this) (WpFn 𝓤 H C Λ code.function (u ∷ v ∷ []) (Thin 𝓤 H A me.ended clauses .post this))
       walk wt p =
           qed W (raw (Entry 𝓤 H A me.ended clauses this) ∷ []) ∵ enter ! C Λ code.function (u ∷ v ∷ []) _ $
@@ -108,11 +108,10 @@ module _ {M : Type 1} (𝓤 : URA M) (H : Heap 𝓤) (A : Atoms 𝓤) (W : Given
           move ! (12 ∷ 13 ∷ []) $ free1 ! $ move ! (10 ∷ 11 ∷ []) $ free1 ! $ move ! (8 ∷ 9 ∷ []) $ free1 ! $ move ! (6 ∷ 7 ∷ []) $ free1 ! $ move ! (4 ∷ 5 ∷ []) $ free1 ! $ move ! (2 ∷ 3 ∷ []) $ free1 ! $ free0 ! $
           move ! (1 ∷ 0 ∷ []) $ by ! (answers 𝓤 H A me.ended clauses this W o r (tt, (tt, tt)) (id⊢ 𝓤 _) (factI 𝓤 (Held r) (emp 𝓤) e)))))))))
 
-  module _ (C : Calls 𝓤 H) (Λ : Loops 𝓤 H) (fm : FmC 𝓤 H (W .laws) C) (known : Triple 𝓤 (C #callee) (Thin 𝓤 H A callee.ended asked)) where
     meets : Triple 𝓤 (WpFn 𝓤 H C Λ code.function) (Thin 𝓤 H A me.ended clauses)
     meets =
         begins 𝓤 H A me.ended clauses (λ κs. (LL.vals (D κs) (L κs), (slice-vals, tt))) (λ κs. (LL.tells (D κs) (L κs), (shr-slice-tells (named 2) (κs .1 .1 .0) u8, tt))) (WpFn 𝓤 H C Λ code.function)
-        (λ ((κs, qs, _, (d, (x, _)), _), _) are. walk κs qs d x C Λ fm known (LL.lawful (D κs) (L κs) 𝓤 H A W .typed d _ (are .0) .0) (are .1 .0))
+        (λ ((κs, qs, _, (d, (x, _)), _), _) are. walk κs qs d x (LL.lawful (D κs) (L κs) 𝓤 H A W .typed d _ (are .0) .0) (are .1 .0))
 
 pub matches-spec : {M : Type 1} → stated.statement M
 unfolding code.routine tablesOf
