@@ -57,7 +57,7 @@ module _ (words : List ℕ) where
     count-from j zero e h = let z : j ≡ 64 = omega arith in rw (z, div-eq-of-lt h)
     count-from j (suc n) e h =
         let w = getD words k 0 in
-        rw (word-has j (omega arith), digit (bit w j) (omega arith) (k * 64 + j) (idsFrom words (k * 64 + j + 1) n), add-assoc (k * 64) j 1, count-from (j + 1) n (omega arith) h, ones-step (w / 2 ^ j), shr-shr w j 1)
+        rw (word-has j (omega arith), digit (bit w j) (omega arith), add-assoc (k * 64) j 1, count-from (j + 1) n (omega arith) h, ones-step (w / 2 ^ j), shr-shr w j 1)
 
     -- with the next word's ids the count is that of the words so far and its own
     pub counted : (count : ℕ) → getD words k 0 < 2 ^ 64 → count ≡ length (idsFrom words 0 (k * 64)) → count + ones (getD words k 0) ≡ length (idsFrom words 0 ((k + 1) * 64))
@@ -104,51 +104,55 @@ lowest (suc k) w p h = go (w % 2) refl (λ q. lowest k (w / 2) q (half-lt k w h)
 -- ---- the next member
 
 module _ (words : List ℕ) (k passed : ℕ) where
-  bit-on : (j : ℕ) → bit (getD words k 0) (passed + j) ≡ bit (getD words k 0 / 2 ^ passed) j
+  -- the bits of word k that are not passed, and the id of the first of them
+  abbrev bits : ℕ
+  bits = getD words k 0 / 2 ^ passed
+
+  abbrev here : ℕ
+  here = k * 64 + passed
+
+  bit-on : (j : ℕ) → bit (getD words k 0) (passed + j) ≡ bit bits j
   bit-on j = rw (shr-shr (getD words k 0) passed j)
 
-  has-on : (j b : ℕ) → passed + j < 64 → bit (getD words k 0 / 2 ^ passed) j ≡ b → hasId words (k * 64 + passed + j) ≡ eqb b 1
+  has-on : (j b : ℕ) → passed + j < 64 → bit bits j ≡ b → hasId words (here + j) ≡ eqb b 1
   has-on j b h e = rw (add-assoc (k * 64) passed j, word-has words k (passed + j) h, bit-on j, e)
 
-  -- a bit past the word's 64 is not set
-  inside-word : (t : ℕ) → getD words k 0 < 2 ^ 64 → bit (getD words k 0 / 2 ^ passed) t ≡ 1 → passed + t < 64
-  inside-word t h e = go (ltb (passed + t) 64) refl
-    where
-      go : (b : Bool) → ltb (passed + t) 64 ≡ b → passed + t < 64
-      go true q = ltb-true _ _ q
-      go false q =
-          let z : getD words k 0 / 2 ^ (passed + t) ≡ 0 = div-eq-of-lt (lt-of-lt-of-le h (pow-mono (ltb-false _ _ q))) in
-          let y : getD words k 0 / 2 ^ (passed + t) % 2 ≡ 1 = bit-on t ∙ e in
-          absurd (omega (arith, z, y))
+  module _ (fits : getD words k 0 < 2 ^ 64) where
+    -- a bit past the word's 64 is not set
+    inside-word : (t : ℕ) → bit bits t ≡ 1 → passed + t < 64
+    inside-word t e = go (ltb (passed + t) 64) refl
+      where
+        go : (b : Bool) → ltb (passed + t) 64 ≡ b → passed + t < 64
+        go true q = ltb-true _ _ q
+        go false q =
+            let z : getD words k 0 / 2 ^ (passed + t) ≡ 0 = div-eq-of-lt (lt-of-lt-of-le fits (pow-mono (ltb-false _ _ q))) in
+            let y : getD words k 0 / 2 ^ (passed + t) % 2 ≡ 1 = bit-on t ∙ e in
+            absurd (omega (arith, z, y))
 
-  module _ (fits : getD words k 0 < 2 ^ 64) (n : ℕ) (inside : (k + 1) * 64 ≤ n) where
-    small : getD words k 0 / 2 ^ passed < 2 ^ 64
-    small = lt-of-le-of-lt (shr-le (getD words k 0) passed) fits
+    first : 0 < bits → Lowest bits (trailingZeros 64 bits) 64
+    first p = lowest 64 bits p (lt-of-le-of-lt (shr-le (getD words k 0) passed) fits)
 
-    pub next-found : 0 < getD words k 0 / 2 ^ passed
-        → Next.Id (k * 64 + passed + trailingZeros 64 (getD words k 0 / 2 ^ passed)) ≡ firstOf (idsFrom words (k * 64 + passed) (n - (k * 64 + passed)))
-    unfolding idsFrom firstOf
-    next-found p =
-        let v = getD words k 0 / 2 ^ passed in
-        let l = lowest 64 v p small in
-        let t = trailingZeros 64 v in
-        let i : passed + t < 64 = inside-word t fits (l .set-bit) in
-        let m = n - (k * 64 + passed + t + 1) in
-        let e : n - (k * 64 + passed) ≡ t + suc m = omega (arith, i, inside) in
-        let z : idsFrom words (k * 64 + passed) t ≡ [] = ids-none words (k * 64 + passed) t (λ j g. has-on j 0 (omega (arith, i, g)) (l .zeros j g)) in
-        rw (e, ids-split words (k * 64 + passed) t (suc m), z, has-on t 1 i (l .set-bit))
+    pub next-small : 0 < bits → passed + trailingZeros 64 bits < 64
+    next-small p = inside-word (trailingZeros 64 bits) (first p .set-bit)
 
-    pub next-small : 0 < getD words k 0 / 2 ^ passed → passed + trailingZeros 64 (getD words k 0 / 2 ^ passed) < 64
-    next-small p = inside-word (trailingZeros 64 (getD words k 0 / 2 ^ passed)) fits (lowest 64 (getD words k 0 / 2 ^ passed) p small .set-bit)
+    module _ (n : ℕ) (inside : (k + 1) * 64 ≤ n) where
+      pub next-found : 0 < bits → Next.Id (here + trailingZeros 64 bits) ≡ firstOf (idsFrom words here (n - here))
+      unfolding idsFrom firstOf
+      next-found p =
+          let t = trailingZeros 64 bits in
+          let i : passed + t < 64 = next-small p in
+          let m = n - (here + t + 1) in
+          let e : n - here ≡ t + suc m = omega (arith, i, inside) in
+          let z : idsFrom words here t ≡ [] = ids-none words here t (λ j g. has-on j 0 (omega (arith, i, g)) (first p .zeros j g)) in
+          rw (e, ids-split words here t (suc m), z, has-on t 1 i (first p .set-bit))
 
-    pub next-later : passed < 64 → getD words k 0 / 2 ^ passed ≡ 0
-        → idsFrom words (k * 64 + passed) (n - (k * 64 + passed)) ≡ idsFrom words ((k + 1) * 64 + 0) (n - ((k + 1) * 64 + 0))
-    next-later g e =
-        let m = 64 - passed in
-        let a : n - (k * 64 + passed) ≡ m + (n - ((k + 1) * 64 + 0)) = omega (arith, inside, g) in
-        let b : k * 64 + passed + m ≡ (k + 1) * 64 + 0 = omega (arith, g) in
-        let z : idsFrom words (k * 64 + passed) m ≡ [] = ids-none words (k * 64 + passed) m (λ j h. has-on j 0 (omega (arith, h, g)) (rw (e, zero-div (2 ^ j)))) in
-        rw (a, ids-split words (k * 64 + passed) m (n - ((k + 1) * 64 + 0)), z, b)
+      pub next-later : passed < 64 → bits ≡ 0 → idsFrom words here (n - here) ≡ idsFrom words ((k + 1) * 64 + 0) (n - ((k + 1) * 64 + 0))
+      next-later g e =
+          let m = 64 - passed in
+          let a : n - here ≡ m + (n - ((k + 1) * 64 + 0)) = omega (arith, inside, g) in
+          let b : here + m ≡ (k + 1) * 64 + 0 = omega (arith, g) in
+          let z : idsFrom words here m ≡ [] = ids-none words here m (λ j h. has-on j 0 (omega (arith, h, g)) (rw (e, zero-div (2 ^ j)))) in
+          rw (a, ids-split words here m (n - ((k + 1) * 64 + 0)), z, b)
 
 -- past the words there is no member
 pub ids-past : (words : List ℕ) (id n : ℕ) → length words * 64 ≤ id → idsFrom words id n ≡ []

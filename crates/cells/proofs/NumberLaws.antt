@@ -1,36 +1,26 @@
 -- What the code of `numbers` computes is what the definitions say.
 use mathlib.Core.Path.{_≡_, refl, sym, ap, _∙_}
 use mathlib.Core.List.{List, []}
-use Prim.Native.Nat.{ℕ, zero, suc, _+_, _-_, _*_, _^_, _<_, _≤_}
+use Prim.Native.Nat.{ℕ, zero, suc, _+_, _-_, _^_, _<_, _≤_}
 use native.Mathlib.Nat.{zero-add}
 use native.Mathlib.Omega.{arith}
 use lib.IntN.{ℤ, pos, negsuc, _-ℤ_}
-use lib.ListN.{length, getD, take, drop, length-drop, drop-of-length-le, List·getD-eq-default}
+use lib.ListN.{length, take, drop, length-drop, drop-of-length-le, List·getD-eq-default}
 use lib.Seq.{take-all, take-nil}
 use mir.Syntax.{w32}
 use mir.Val.{SFits, toZ, ofZ}
 use mir.ValLaws.{toZ-pos, toZ-neg, toZ-fits, toZ-ofZ}
-use Rattle.cells.specs.Numbers.{part, be16, be32, i32At}
+use Rattle.cells.specs.Numbers.{part, be16, be32}
 
-module _ (s : List ℕ) (at : ℕ) where
-  pub be16-past : length s ≤ at → be16 s at ≡ 0
-  unfolding be16
-  be16-past h =
-      let a : getD s at 0 ≡ 0 = List·getD-eq-default s 0 h in
-      let b : getD s (at + 1) 0 ≡ 0 = List·getD-eq-default s 0 (omega arith) in
-      rw (a, b)
-
-  pub be16-is : (a b : ℕ) → (a ≡ getD s at 0) × (a < 2 ^ 8) → (b ≡ getD s (at + 1) 0) × (b < 2 ^ 8) → (a * 256 + b ≡ be16 s at) × (a * 256 + b < 2 ^ 16)
-  unfolding be16
-  be16-is a b p q = (rw (p .0, q .0), omega (arith, p .1, q .1))
+pub be16-past : (s : List ℕ) (at : ℕ) → length s ≤ at → be16 s at ≡ 0
+unfolding be16
+be16-past s at h =
+    let b : length s ≤ at + 1 = omega arith in
+    rw (List·getD-eq-default s 0 h, List·getD-eq-default s 0 b)
 
 pub be32-past : (s : List ℕ) (at : ℕ) → length s ≤ at → be32 s at ≡ 0
 unfolding be32
 be32-past s at h = rw (be16-past s at h, be16-past s (at + 2) (omega arith))
-
-pub be32-is : (s : List ℕ) (at a b : ℕ) → (a ≡ be16 s at) × (a < 2 ^ 16) → (b ≡ be16 s (at + 2)) × (b < 2 ^ 16) → (a * 65536 + b ≡ be32 s at) × (a * 65536 + b < 2 ^ 32)
-unfolding be32
-be32-is s at a b p q = (rw (p .0, q .0), omega (arith, p .1, q .1))
 
 -- ---- two's complement
 
@@ -50,10 +40,6 @@ upper-fits x h g = rw (upper-half x h g) (toZ-fits w32 x (record { fits = g }))
 
 pub upper-is : (x : ℕ) → 2147483648 ≤ x → x < 2 ^ 32 → toZ w32 (ofZ w32 (negsuc 0 -ℤ toZ w32 (4294967295 - x))) ≡ toZ w32 x
 upper-is x h g = toZ-ofZ w32 (negsuc 0 -ℤ toZ w32 (4294967295 - x)) (upper-fits x h g) ∙ upper-half x h g
-
-pub i32-is : (s : List ℕ) (at x : ℕ) → x ≡ be32 s at → toZ w32 x ≡ i32At s at
-unfolding i32At
-i32-is s at x e = ap (toZ w32) e
 
 -- ---- parts
 

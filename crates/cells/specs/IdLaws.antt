@@ -18,9 +18,6 @@ use Rattle.cells.specs.Ids.{bit, hasId, idsFrom, idsOf, withId, union}
 no-bit : (i : ℕ) → eqb (bit 0 i) 1 ≡ false
 no-bit i = rw (zero-div (2 ^ i))
 
-holds : {b : Bool} → b ≡ true → T b
-holds e = subst T (sym e) tt
-
 -- ---- the list of members
 
 -- Strictly rising, none below the least.
@@ -50,7 +47,7 @@ module _ (words : List ℕ) where
   listed-member id (suc n) i m = go (hasId words id) refl (listed-member (id + 1) n i) m
     where
       go : (b : Bool) → hasId words id ≡ b → (List·Memᴰ i (idsFrom words (id + 1) n) → T (hasId words i)) → List·Memᴰ i (cond b (id ∷ idsFrom words (id + 1) n) (idsFrom words (id + 1) n)) → T (hasId words i)
-      go true e ih m = ⊎-elim (λ h. rw h (holds e)) ih (List·Memᴰ·cases-cons m)
+      go true e ih m = ⊎-elim (λ h. rw h (subst T (sym e) tt)) ih (List·Memᴰ·cases-cons m)
       go false e ih m = ih m
 
   member-listed : (id n i : ℕ) → id ≤ i → i < id + n → T (hasId words i) → List·Memᴰ i (idsFrom words id n)
@@ -83,14 +80,11 @@ member-inside words i h =
 
 -- ---- unions
 
-max-lt : (a b : ℕ) → a < 2 → b < 2 → max a b < 2
-max-lt a b h g = omega arith
-
 -- a bit of a union of words
 pub or-bit : (a b i : ℕ) → bit (bitOr a b) i ≡ max (bit a i) (bit b i)
 or-bit a b i =
     rw (or-shr a b i, or-step (a / 2 ^ i) (b / 2 ^ i))
-    (digits-mod (bitOr (a / 2 ^ i / 2) (b / 2 ^ i / 2)) (max-lt _ _ (omega arith) (omega arith)))
+    (digits-mod (bitOr (a / 2 ^ i / 2) (b / 2 ^ i / 2)) (omega arith))
 
 one-or : (x y : ℕ) → x < 2 → y < 2 → eqb (max x y) 1 ≡ (eqb x 1 || eqb y 1)
 one-or zero zero h g = refl

@@ -26,19 +26,16 @@ unfolding cellsFrom
 length-cells xs a zero = refl
 length-cells xs a (suc n) = ap suc (length-cells xs (a + 1) n)
 
-other : (l : List ℕ) (i j a : ℕ) → (j ≡ i → ⊥) → getD (set l i a) j 0 ≡ getD l j 0
-other l i j a h = getD-set-other l i j a 0 h
-
 -- a cell that is not written
 pub get-below : (xs : List ℕ) (a : ℕ) (vs : List ℕ) (j : ℕ) → j < a → getD (written xs a vs) j 0 ≡ getD xs j 0
 unfolding written
 get-below xs a [] j h = refl
-get-below xs a (v ∷ vs) j h = get-below (set xs a v) (a + 1) vs j (omega arith) ∙ other xs a j v (λ e. omega arith)
+get-below xs a (v ∷ vs) j h = get-below (set xs a v) (a + 1) vs j (omega arith) ∙ getD-set-other xs a j v 0 (λ e. omega arith)
 
 pub get-above : (xs : List ℕ) (a : ℕ) (vs : List ℕ) (j : ℕ) → a + length vs ≤ j → getD (written xs a vs) j 0 ≡ getD xs j 0
 unfolding written
 get-above xs a [] j h = refl
-get-above xs a (v ∷ vs) j h = get-above (set xs a v) (a + 1) vs j (omega arith) ∙ other xs a j v (λ e. omega arith)
+get-above xs a (v ∷ vs) j h = get-above (set xs a v) (a + 1) vs j (omega arith) ∙ getD-set-other xs a j v 0 (λ e. omega arith)
 
 -- a cell that is written
 pub get-in : (xs : List ℕ) (a : ℕ) (vs : List ℕ) (j : ℕ) → j < length vs → a + length vs ≤ length xs → getD (written xs a vs) (a + j) 0 ≡ getD vs j 0
@@ -51,16 +48,17 @@ get-in xs a (v ∷ vs) (suc j) h f =
     let e : a + suc j ≡ a + 1 + j = omega arith in
     rw e (get-in (set xs a v) (a + 1) vs j (omega arith) (rw length-set (omega arith)))
 
--- the same for stretches
-pub cells-below : (xs : List ℕ) (a : ℕ) (vs : List ℕ) (b n : ℕ) → b + n ≤ a → cellsFrom (written xs a vs) b n ≡ cellsFrom xs b n
+-- the same for stretches: they are equal where their cells are
+pub cells-same : (xs ys : List ℕ) (a n : ℕ) → ((i : ℕ) → a ≤ i → i < a + n → getD ys i 0 ≡ getD xs i 0) → cellsFrom ys a n ≡ cellsFrom xs a n
 unfolding cellsFrom
-cells-below xs a vs b zero h = refl
-cells-below xs a vs b (suc n) h = rw (get-below xs a vs b (omega arith), cells-below xs a vs (b + 1) n (omega arith))
+cells-same xs ys a zero h = refl
+cells-same xs ys a (suc n) h = rw (h a (omega arith) (omega arith), cells-same xs ys (a + 1) n (λ i p q. h i (omega arith) (omega arith)))
+
+pub cells-below : (xs : List ℕ) (a : ℕ) (vs : List ℕ) (b n : ℕ) → b + n ≤ a → cellsFrom (written xs a vs) b n ≡ cellsFrom xs b n
+cells-below xs a vs b n h = cells-same xs (written xs a vs) b n (λ i p q. get-below xs a vs i (omega arith))
 
 pub cells-above : (xs : List ℕ) (a : ℕ) (vs : List ℕ) (b n : ℕ) → a + length vs ≤ b → cellsFrom (written xs a vs) b n ≡ cellsFrom xs b n
-unfolding cellsFrom
-cells-above xs a vs b zero h = refl
-cells-above xs a vs b (suc n) h = rw (get-above xs a vs b h, cells-above xs a vs (b + 1) n (omega arith))
+cells-above xs a vs b n h = cells-same xs (written xs a vs) b n (λ i p q. get-above xs a vs i (omega arith))
 
 pub cells-in : (xs : List ℕ) (a : ℕ) (vs : List ℕ) → a + length vs ≤ length xs → cellsFrom (written xs a vs) a (length vs) ≡ vs
 unfolding cellsFrom written
@@ -79,13 +77,8 @@ cells-cat xs a (suc n) m =
 -- one cell written, any other read
 pub get-off : (xs : List ℕ) (a v j : ℕ) → (j ≡ a → ⊥) → getD (written xs a (v ∷ [])) j 0 ≡ getD xs j 0
 unfolding written
-get-off xs a v j h = other xs a j v h
+get-off xs a v j h = getD-set-other xs a j v 0 h
 
 pub get-on : (xs : List ℕ) (a v : ℕ) → a < length xs → getD (written xs a (v ∷ [])) a 0 ≡ v
 unfolding written
 get-on xs a v h = getD-set-same xs a v 0 h
-
-pub cells-same : (xs ys : List ℕ) (a n : ℕ) → ((i : ℕ) → a ≤ i → i < a + n → getD ys i 0 ≡ getD xs i 0) → cellsFrom ys a n ≡ cellsFrom xs a n
-unfolding cellsFrom
-cells-same xs ys a zero h = refl
-cells-same xs ys a (suc n) h = rw (h a (omega arith) (omega arith), cells-same xs ys (a + 1) n (λ i p q. h i (omega arith) (omega arith)))

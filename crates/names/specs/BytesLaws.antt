@@ -1,6 +1,6 @@
 -- `equalBytes` decides equality of byte strings, `sameBytes` equality under case rules.
 use mathlib.Core.Path.{_≡_, refl, sym, ap, _∙_, subst}
-use mathlib.Core.Logic.{_↔_, _⊎_, inl, inr}
+use mathlib.Core.Logic.{_↔_, _⊎_, inl, inr, ⊎-elim}
 use mathlib.Core.Bool.{Bool, true, false, _&&_, _||_}
 use mathlib.Core.List.{List, [], _∷_}
 use Prim.Native.Nat.{ℕ, _+_, _<_, _≤_}
@@ -9,31 +9,19 @@ use lib.ListN.{length, getD, drop, length-map, drop-of-length-le}
 use lib.Seq.{drop-cons}
 use borrow.Author.Tests.{eq-eqb}
 use lib.Dec.{T, eqb, eqb→eq}
+use mir.Facts.{and-yes, yes-and}
 use Rattle.names.specs.Bytes.{foldByte, equalBytes, fold, sameBytes}
 
-pub and-left : (a b : Bool) → T (a && b) → T a
-and-left true b t = tt
-and-left false b t = t
+-- what `&&` and `||` say, and a choice between things that are each the same
+pub and-law : (a b : Bool) → T (a && b) ↔ (T a × T b)
+and-law a b = (and-yes a b, λ p. yes-and a b (p .0) (p .1))
 
-pub and-right : (a b : Bool) → T (a && b) → T b
-and-right true b t = t
-and-right false b t = absurd t
+pub or-law : (a b : Bool) → T (a || b) ↔ (T a ⊎ T b)
+or-law true b = (inl, λ s. tt)
+or-law false b = (inr, ⊎-elim (λ t. absurd t) (λ t. t))
 
-pub and-both : (a b : Bool) → T a → T b → T (a && b)
-and-both true b s t = t
-and-both false b s t = s
-
-pub or-cases : (a b : Bool) → T (a || b) → T a ⊎ T b
-or-cases true b t = inl tt
-or-cases false b t = inr t
-
-pub or-left : (a b : Bool) → T a → T (a || b)
-or-left true b t = tt
-or-left false b t = absurd t
-
-pub or-right : (a b : Bool) → T b → T (a || b)
-or-right true b t = tt
-or-right false b t = t
+pub either : {A B C D : Type 0} → A ↔ C → B ↔ D → (A ⊎ B) ↔ (C ⊎ D)
+either p q = (⊎-elim (λ a. inl (p .0 a)) (λ b. inr (q .0 b)), ⊎-elim (λ c. inl (p .1 c)) (λ d. inr (q .1 d)))
 
 pub is-false : (b : Bool) → (T b → ⊥) → b ≡ false
 is-false true n = absurd (n tt)
@@ -47,16 +35,14 @@ equal→eq [] [] t = refl
 equal→eq [] (y ∷ ys) t = absurd t
 equal→eq (x ∷ xs) [] t = absurd t
 equal→eq (x ∷ xs) (y ∷ ys) t =
-    let e = eqb→eq x y (and-left (eqb x y) (equalBytes xs ys) t) in
-    let r = equal→eq xs ys (and-right (eqb x y) (equalBytes xs ys) t) in
+    let (e, r) = and-yes (eqb x y) (equalBytes xs ys) t in
+    let p = eqb→eq x y e in
+    let q = equal→eq xs ys r in
     cc
 
 pub equal-refl : (a : List ℕ) → equalBytes a a ≡ true
 equal-refl [] = refl
 equal-refl (x ∷ xs) = rw (eq-eqb x x refl) (equal-refl xs)
-
-pub equal-eq : (a b : List ℕ) → a ≡ b → equalBytes a b ≡ true
-equal-eq a b e = rw e (equal-refl b)
 
 pub equal-ne : (a b : List ℕ) → (a ≡ b → ⊥) → equalBytes a b ≡ false
 equal-ne a b n = is-false (equalBytes a b) (λ t. n (equal→eq a b t))
@@ -68,7 +54,11 @@ fold-false (x ∷ w) = ap (λ (l : List ℕ). x ∷ l) (fold-false w)
 -- the law that a reader wants
 pub same-law : (f g : Bool) (a b : List ℕ) → T (sameBytes f g a b) ↔ (fold f a ≡ fold g b)
 unfolding sameBytes
-same-law f g a b = (equal→eq (fold f a) (fold g b), λ e. holds (equal-eq (fold f a) (fold g b) e))
+same-law f g a b = (equal→eq (fold f a) (fold g b), λ e. rw e (holds (equal-refl (fold g b))))
+
+-- the same where the second is compared as it is
+pub exact-law : (f : Bool) (a b : List ℕ) → T (sameBytes f false a b) ↔ (fold f a ≡ b)
+exact-law f a b = rw (fold-false b) at (same-law f false a b)
 
 pub same-long : (f g : Bool) (a b : List ℕ) → (length a ≡ length b → ⊥) → sameBytes f g a b ≡ false
 unfolding sameBytes

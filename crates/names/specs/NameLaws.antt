@@ -1,6 +1,6 @@
 -- What the rules on names mean (01, section 3; E8).
-use mathlib.Core.Path.{_≡_, refl, sym, ap, _∙_, subst}
-use mathlib.Core.Logic.{_↔_, _⊎_, inl, inr, ⊎-elim}
+use mathlib.Core.Path.{_≡_, refl, ap}
+use mathlib.Core.Logic.{_↔_, _⊎_, ⊎-elim, Iff·rfl, Iff·trans, Iff·and}
 use mathlib.Core.Bool.{Bool, true, false, cond, _&&_}
 use mathlib.Core.List.{List, [], _∷_, map, List·Memᴰ, List·Memᴰ·head, List·Memᴰ·tail, List·Memᴰ·not-nil, List·Memᴰ·cases-cons}
 use Prim.Native.Nat.{ℕ, _+_, _%_, _^_, _<_}
@@ -8,7 +8,7 @@ use native.Mathlib.Omega.{arith}
 use borrow.Author.Tests.{leb-true, lt-leb}
 use lib.Dec.{T, leb}
 use Rattle.names.specs.Bytes.{lowerOf, fold, sameBytes}
-use Rattle.names.specs.BytesLaws.{and-both, and-left, and-right, or-cases, or-left, or-right, fold-false, same-law}
+use Rattle.names.specs.BytesLaws.{and-law, or-law, either, fold-false, same-law, exact-law}
 use Rattle.names.specs.Names.{sameName, voidNames, esiNames, amongNames, voidName, hashOf, nameKey}
 
 -- Names are the same exactly when they are equal after lower-casing.
@@ -19,20 +19,17 @@ name-law a b = same-law true true a b
 among-law : (ignore : Bool) (name : List ℕ) (names : List (List ℕ)) → T (amongNames ignore name names) ↔ List·Memᴰ (fold ignore name) names
 unfolding amongNames
 among-law ignore name [] = (λ t. absurd t, λ m. absurd (List·Memᴰ·not-nil m))
-among-law ignore name (n ∷ ns) = (
-  (λ t. ⊎-elim (λ u. List·Memᴰ·head (same-law ignore false name n .0 u ∙ fold-false n)) (λ u. List·Memᴰ·tail (among-law ignore name ns .0 u)) (or-cases (sameBytes ignore false name n) (amongNames ignore name ns) t)),
-  (λ m. ⊎-elim (λ e. or-left (sameBytes ignore false name n) (amongNames ignore name ns) (same-law ignore false name n .1 (e ∙ sym (fold-false n)))) (λ u. or-right (sameBytes ignore false name n) (amongNames ignore name ns) (among-law ignore name ns .1 u)) (List·Memᴰ·cases-cons m)),
-)
+among-law ignore name (n ∷ ns) =
+    Iff·trans (or-law (sameBytes ignore false name n) (amongNames ignore name ns))
+    (Iff·trans (either (exact-law ignore name n) (among-law ignore name ns)) (⊎-elim List·Memᴰ·head List·Memᴰ·tail, List·Memᴰ·cases-cons))
 
 -- E8: a name is void when, lower-cased, it is one of the 17, or with ESI on, as it stands, one of the two.
 pub void-law : (esi : Bool) (name : List ℕ) → T (voidName esi name) ↔ (List·Memᴰ (fold true name) voidNames ⊎ (T esi × List·Memᴰ name esiNames))
 unfolding voidName
 void-law esi name =
-    let v = amongNames true name voidNames in
-    let e = amongNames false name esiNames in (
-      (λ t. ⊎-elim (λ u. inl (among-law true name voidNames .0 u)) (λ u. inr (and-left esi e u, subst (λ (n : List ℕ). List·Memᴰ n esiNames) (fold-false name) (among-law false name esiNames .0 (and-right esi e u)))) (or-cases v (esi && e) t)),
-      ⊎-elim (λ m. or-left v (esi && e) (among-law true name voidNames .1 m)) (λ p. or-right v (esi && e) (and-both esi e (p .0) (among-law false name esiNames .1 (subst (λ (n : List ℕ). List·Memᴰ n esiNames) (sym (fold-false name)) (p .1))))),
-    )
+    let e = amongNames false name esiNames in
+    Iff·trans (or-law (amongNames true name voidNames) (esi && e))
+    (either (among-law true name voidNames) (Iff·trans (and-law esi e) (Iff·and Iff·rfl (rw (fold-false name) at (among-law false name esiNames)))))
 
 -- ---- the name key
 

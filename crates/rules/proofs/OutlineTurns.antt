@@ -1,6 +1,6 @@
 -- One turn of the loops over outlines, which take four numbers at a time.
 use mathlib.Core.Path.{_≡_, refl, sym, ap, _∙_}
-use mathlib.Core.Bool.{Bool, true, false, cond}
+use mathlib.Core.Bool.{Bool, true, false, cond, _&&_}
 use mathlib.Core.List.{List, [], _∷_}
 use mathlib.Core.Option.{Option, none, some}
 use Prim.Native.Nat.{ℕ, _+_, _-_, _^_, _<_, _≤_}
@@ -11,10 +11,8 @@ use lib.Seq.{drop-cons}
 use Rattle.cells.specs.Numbers.{part}
 use Rattle.names.specs.Bytes.{fold, sameBytes}
 use Rattle.names.specs.BytesLaws.{fold-false}
-use Rattle.rules.specs.Attributes.{attributesOf, liesWithin, wellFormed, lookup, isThere, findIn}
-use Rattle.rules.specs.Operators.{operatorHolds, valueHolds}
+use Rattle.rules.specs.Attributes.{attributesOf, liesWithin, wellFormed, lookup, findIn}
 use Rattle.rules.specs.declared.attribute_matcher.Found.{Found}
-use Rattle.rules.specs.declared.attribute_matcher.Operator.{Operator}
 
 next : (l : List ℕ) (i j : ℕ) → j ≡ i + 1 → i < length l → drop i l ≡ getD l i 0 ∷ drop j l
 next l i j e h = rw (e, add-one i) (drop-cons l i 0 h)
@@ -47,18 +45,9 @@ module _ (size : ℕ) (l : List ℕ) (i : ℕ) where
   unfolding wellFormed
   formed-end h = rw (drop-of-length-le l h)
 
-  module _ (room : i + 4 ≤ length l) where
-    pub formed-name : liesWithin size (getD l i 0) (getD l (i + 1) 0) ≡ false → wellFormed size (drop i l) ≡ false
-    unfolding wellFormed
-    formed-name e = rw (four l i room, e)
-
-    pub formed-value : liesWithin size (getD l i 0) (getD l (i + 1) 0) ≡ true → liesWithin size (getD l (i + 2) 0) (getD l (i + 3) 0) ≡ false → wellFormed size (drop i l) ≡ false
-    unfolding wellFormed
-    formed-value e f = rw (four l i room, e, f)
-
-    pub formed-more : liesWithin size (getD l i 0) (getD l (i + 1) 0) ≡ true → liesWithin size (getD l (i + 2) 0) (getD l (i + 3) 0) ≡ true → wellFormed size (drop i l) ≡ wellFormed size (drop (i + 4) l)
-    unfolding wellFormed
-    formed-more e f = rw (four l i room, e, f)
+  pub formed-step : i + 4 ≤ length l → wellFormed size (drop i l) ≡ (liesWithin size (getD l i 0) (getD l (i + 1) 0) && (liesWithin size (getD l (i + 2) 0) (getD l (i + 3) 0) && wellFormed size (drop (i + 4) l)))
+  unfolding wellFormed
+  formed-step room = rw (four l i room)
 
 -- what was read, tested
 pub lies : (size a b x y : ℕ) (r : Bool) → (a ≡ x) × (a < 2 ^ 32) → (b ≡ y) × (b < 2 ^ 32) → r ≡ liesWithin size a b → liesWithin size x y ≡ r
@@ -74,14 +63,9 @@ module _ (input wanted l : List ℕ) (i : ℕ) where
   pub found-short : length l - i < 4 → findIn input wanted (drop i l) ≡ Found.Nothing
   found-short h = not-found input wanted (drop i l) (omega (arith, length-drop i l))
 
-  module _ (room : i + 4 ≤ length l) where
-    pub found-here : sameBytes true false (part input (getD l i 0) (getD l (i + 1) 0)) wanted ≡ true → findIn input wanted (drop i l) ≡ Found.At (getD l (i + 2) 0) (getD l (i + 3) 0)
-    unfolding findIn
-    found-here e = rw (four l i room, e)
-
-    pub found-later : sameBytes true false (part input (getD l i 0) (getD l (i + 1) 0)) wanted ≡ false → findIn input wanted (drop i l) ≡ findIn input wanted (drop (i + 4) l)
-    unfolding findIn
-    found-later e = rw (four l i room, e)
+  pub found-step : i + 4 ≤ length l → findIn input wanted (drop i l) ≡ cond (sameBytes true false (part input (getD l i 0) (getD l (i + 1) 0)) wanted) (Found.At (getD l (i + 2) 0) (getD l (i + 3) 0)) (findIn input wanted (drop (i + 4) l))
+  unfolding findIn
+  found-step room = rw (four l i room)
 
 -- the value that was found is the one that a lookup among the attributes gives
 abbrev pub valueAt : List ℕ → Found → Option (List ℕ)
@@ -100,24 +84,5 @@ lookup-is input wanted (a ∷ (b ∷ [])) = refl
 lookup-is input wanted (a ∷ (b ∷ (c ∷ []))) = refl
 lookup-is input wanted (a ∷ (b ∷ (c ∷ (d ∷ m)))) = found-by input (sameBytes true false (part input a b) wanted) c d (findIn input wanted m) _ (lookup-is input wanted m)
 
-module _ (input name l : List ℕ) where
-  pub has-found : (found : Found) (a e : ℕ) → found ≡ findIn input (fold false name) l → found ≡ Found.At a e → true ≡ isThere (lookup name (attributesOf input l))
-  unfolding isThere
-  has-found found a e p q = ap isThere (ap (valueAt input) (sym q ∙ p) ∙ lookup-is input (fold false name) l ∙ ap (λ (w : List ℕ). lookup w (attributesOf input l)) (fold-false name))
-
-  pub has-not : (found : Found) → found ≡ findIn input (fold false name) l → found ≡ Found.Nothing → false ≡ isThere (lookup name (attributesOf input l))
-  unfolding isThere
-  has-not found p q = ap isThere (ap (valueAt input) (sym q ∙ p) ∙ lookup-is input (fold false name) l ∙ ap (λ (w : List ℕ). lookup w (attributesOf input l)) (fold-false name))
-
-module _ (input wanted l : List ℕ) (operator : Operator) (f : Bool) (operand : List ℕ) where
-  pub value-found : (found : Found) (a e : ℕ) (value : List ℕ) (r : Bool) → found ≡ findIn input wanted l → found ≡ Found.At a e → value ≡ part input a e → r ≡ operatorHolds operator f value operand → r ≡ valueHolds operator f operand (lookup wanted (attributesOf input l))
-  unfolding valueHolds
-  value-found found a e value r p q v h = h ∙ ap (λ (x : List ℕ). operatorHolds operator f x operand) v ∙ ap (valueHolds operator f operand) (ap (valueAt input) (sym q ∙ p) ∙ lookup-is input wanted l)
-
-  pub value-missing : (found : Found) → found ≡ findIn input wanted l → found ≡ Found.Nothing → false ≡ valueHolds operator f operand (lookup wanted (attributesOf input l))
-  unfolding valueHolds
-  value-missing found p q = ap (valueHolds operator f operand) (ap (valueAt input) (sym q ∙ p) ∙ lookup-is input wanted l)
-
--- the answer for the operator that a `match` has found
-pub operator-is : (operator known : Operator) (f : Bool) (value operand : List ℕ) (r : Bool) → operator ≡ known → r ≡ operatorHolds known f value operand → r ≡ operatorHolds operator f value operand
-operator-is operator known f value operand r e h = h ∙ ap (λ (o : Operator). operatorHolds o f value operand) (sym e)
+pub found-is : (input wanted l : List ℕ) (found known : Found) → found ≡ findIn input wanted l → found ≡ known → valueAt input known ≡ lookup wanted (attributesOf input l)
+found-is input wanted l found known p q = ap (valueAt input) (sym q ∙ p) ∙ lookup-is input wanted l

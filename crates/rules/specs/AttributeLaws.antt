@@ -1,13 +1,14 @@
 -- What a lookup finds: the first attribute of the name, or that there is none (01, section 3).
-use mathlib.Core.Path.{_≡_, refl, sym, ap, _∙_, subst}
+use mathlib.Core.Path.{_≡_, refl, ap}
 use mathlib.Core.Logic.{_↔_, ⊎-elim}
 use mathlib.Core.Bool.{Bool, true, false, cond}
 use mathlib.Core.List.{List, [], _∷_, List·Memᴰ, List·Memᴰ·head, List·Memᴰ·tail, List·Memᴰ·not-nil, List·Memᴰ·cases-cons}
 use mathlib.Core.Option.{some}
 use Prim.Native.Nat.{ℕ}
+use native.Mathlib.Omega.{arith}
 use lib.Dec.{T}
 use Rattle.names.specs.Bytes.{fold, sameBytes}
-use Rattle.names.specs.BytesLaws.{fold-false, same-law}
+use Rattle.names.specs.BytesLaws.{holds, exact-law}
 use Rattle.rules.specs.Attributes.{Attribute, lookup, isThere}
 
 -- The value is that of the first attribute whose lower-cased name is the wanted one.
@@ -17,14 +18,14 @@ pub data First (wanted value : List ℕ) : List Attribute → Type 0 where
 
 module _ (wanted : List ℕ) where
   named : (a : Attribute) → sameBytes true false (a .name) wanted ≡ true → fold true (a .name) ≡ wanted
-  named a e = same-law true false (a .name) wanted .0 (subst T (sym e) tt) ∙ fold-false wanted
+  named a e = exact-law true (a .name) wanted .0 (holds e)
 
   not-named : (a : Attribute) → sameBytes true false (a .name) wanted ≡ false → fold true (a .name) ≡ wanted → ⊥
-  not-named a e n = subst T e (same-law true false (a .name) wanted .1 (n ∙ sym (fold-false wanted)))
+  not-named a e n = rw e at (exact-law true (a .name) wanted .1 n)
 
   to-first : (attributes : List Attribute) (value : List ℕ) → lookup wanted attributes ≡ some value → First wanted value attributes
   unfolding lookup
-  to-first [] value e = let q : false ≡ true = cc in absurd (subst T (sym q) tt)
+  to-first [] value e = let q : _≡_ {A = ℕ} 0 1 = cc in absurd (omega arith)
   to-first (a ∷ more) value e = go (sameBytes true false (a .name) wanted) refl e (to-first more value)
     where
       go : (b : Bool) → sameBytes true false (a .name) wanted ≡ b → cond b (some (a .value)) (lookup wanted more) ≡ some value → (lookup wanted more ≡ some value → First wanted value more) → First wanted value (a ∷ more)
@@ -55,6 +56,6 @@ module _ (wanted : List ℕ) where
           → T (isThere (cond b (some (a .value)) (lookup wanted more))) ↔ ((x : Attribute) × (List·Memᴰ x (a ∷ more) × (fold true (x .name) ≡ wanted)))
       go true s ih = (λ t. (a, (List·Memᴰ·head refl, named a s)), λ p. tt)
       go false s ih = (
-        (λ t. let r = ih .0 t in (r .0, (List·Memᴰ·tail (r .1 .0), r .1 .1))),
-        (λ p. ih .1 (p .0, (⊎-elim (λ e. absurd (not-named a s (ap (λ (x : Attribute). fold true (x .name)) (sym e) ∙ p .1 .1))) (λ m. m) (List·Memᴰ·cases-cons (p .1 .0)), p .1 .1))),
+        (λ t. let (x, (m, e)) = ih .0 t in (x, (List·Memᴰ·tail m, e))),
+        (λ (x, (m, e)). ih .1 (⊎-elim (λ q. absurd (not-named a s (rw q at e))) (λ n. (x, (n, e))) (List·Memᴰ·cases-cons m))),
       )

@@ -1,6 +1,6 @@
 -- The computed operators are W3C's (`Standard`), with the exceptions E1 and E2 and no others: each law holds for every case rule, value and operand.
 use mathlib.Core.Path.{_≡_, refl, sym, ap, _∙_, subst}
-use mathlib.Core.Logic.{_↔_, _⊎_, inl, inr, ⊎-elim}
+use mathlib.Core.Logic.{_↔_, _⊎_, inl, inr, ⊎-elim, Iff·trans, Iff·and}
 use mathlib.Core.Bool.{Bool, true, false, not, cond, _&&_}
 use mathlib.Core.List.{List, [], _∷_, _++_, map, map-append, append-nil, List·Memᴰ, List·Memᴰ·head, List·Memᴰ·tail, List·Memᴰ·not-nil, List·Memᴰ·cases-cons}
 use Prim.Native.Nat.{ℕ, zero, suc, _+_, _-_, _<_, _≤_}
@@ -10,7 +10,7 @@ use lib.Dec.{T, eqb, leb, eqb→eq}
 use lib.ListN.{length, getD, take, drop, length-map, length-append, take-append-drop, List·getD-map}
 use lib.Seq.{drop-cons, take-at, drop-at, getD-at}
 use Rattle.names.specs.Bytes.{sameBytes, foldByte, fold, spaceByte}
-use Rattle.names.specs.BytesLaws.{and-both, and-left, and-right, or-cases, or-left, or-right, holds, same-law}
+use Rattle.names.specs.BytesLaws.{and-law, or-law, either, holds, same-law}
 use Rattle.rules.specs.Operators.{emptyBytes, equalHolds, beginsWith, prefixHolds, suffixHolds, dashHolds, containsBytes, substringHolds, split, somePart, includesHolds}
 use Rattle.rules.specs.SplitLaws.{part-law}
 use Rattle.rules.specs.Standard.{Equal, Prefix, Suffix, Substring, Dash, Clear, Part, Includes}
@@ -27,20 +27,15 @@ map-drop g zero l = refl
 map-drop g (suc n) [] = refl
 map-drop g (suc n) (x ∷ l) = map-drop g n l
 
-not-empty : (v : List ℕ) → T (not (emptyBytes v)) → v ≡ [] → ⊥
+byte-law : (v : List ℕ) → T (not (emptyBytes v)) ↔ (v ≡ [] → ⊥)
 unfolding emptyBytes
-not-empty [] t e = t
-not-empty (x ∷ xs) t e = let z = ap length e in omega arith
+byte-law [] = (λ t e. t, λ n. n refl)
+byte-law (x ∷ xs) = (λ t e. let z = ap length e in omega arith, λ n. tt)
 
-some-byte : (v : List ℕ) → (v ≡ [] → ⊥) → T (not (emptyBytes v))
-unfolding emptyBytes
-some-byte [] n = n refl
-some-byte (x ∷ xs) n = tt
-
--- what holds of an operand that is empty, or not
-by-operand : (o : List ℕ) {X Y : Type 0} → X → Y → ((o ≡ [] → ⊥) × X) ⊎ ((o ≡ []) × Y)
-by-operand [] x y = inr (refl, y)
-by-operand (b ∷ o) x y = inl ((λ e. let z = ap length e in omega arith), x)
+-- E1, for what X says of a value that is not empty: it has a byte where the operand has one, and X holds for the empty operand
+by-operand : {X : Type 0} (v o : List ℕ) → (X → (o ≡ [] → ⊥) → v ≡ [] → ⊥) → (o ≡ [] → X) → ((v ≡ [] → ⊥) × X) ↔ (((o ≡ [] → ⊥) × X) ⊎ ((o ≡ []) × (v ≡ [] → ⊥)))
+by-operand v [] longer always = (λ (n, x). inr (refl, n), ⊎-elim (λ (m, x). absurd (m refl)) (λ (e, n). (n, always e)))
+by-operand v (b ∷ o) longer always = (λ (n, x). inl (λ e. let z = ap length e in omega arith, x), ⊎-elim (λ (m, x). (longer x m, x)) (λ (e, n). (n, always e)))
 
 -- a value that holds an operand with a byte has one
 longer : (f : Bool) (v o front rest : List ℕ) → fold f v ≡ front ++ (fold f o ++ rest) → (o ≡ [] → ⊥) → v ≡ [] → ⊥
@@ -67,15 +62,15 @@ module _ (f : Bool) (v o : List ℕ) where
       ∙ ap (take (length o)) e
       ∙ take-at (fold f o) rest (length o) (length-map o (foldByte f)))
 
+  begins-law : T (beginsWith f v o) ↔ ((rest : List ℕ) × (fold f v ≡ fold f o ++ rest))
+  begins-law = (begins-found, λ (rest, e). begins-holds rest e)
+
   -- E1: the empty operand, which W3C's prefix never matches, matches every value that is not empty.
   pub prefix-law : T (prefixHolds f v o) ↔ (Prefix f v o ⊎ ((o ≡ []) × (v ≡ [] → ⊥)))
   unfolding prefixHolds Prefix
-  prefix-law = (
-    (λ t. by-operand o (begins-found (and-right (not (emptyBytes v)) (beginsWith f v o) t)) (not-empty v (and-left (not (emptyBytes v)) (beginsWith f v o) t))),
-    ⊎-elim
-        (λ p. and-both (not (emptyBytes v)) (beginsWith f v o) (some-byte v (longer f v o [] (p .1 .0) (p .1 .1) (p .0))) (begins-holds (p .1 .0) (p .1 .1)))
-        (λ p. and-both (not (emptyBytes v)) (beginsWith f v o) (some-byte v (p .1)) (begins-holds (fold f v) (rw (p .0)))),
-  )
+  prefix-law =
+      Iff·trans (and-law (not (emptyBytes v)) (beginsWith f v o))
+      (Iff·trans (Iff·and (byte-law v) begins-law) (by-operand v o (λ (rest, e). longer f v o [] rest e) (λ e. (fold f v, rw e))))
 
   ends-found : T (sameBytes f f (drop (length v - length o) v) o) → (front : List ℕ) × (fold f v ≡ front ++ fold f o)
   ends-found t =
@@ -98,12 +93,9 @@ module _ (f : Bool) (v o : List ℕ) where
   pub suffix-law : T (suffixHolds f v o) ↔ (Suffix f v o ⊎ ((o ≡ []) × (v ≡ [] → ⊥)))
   unfolding suffixHolds Suffix
   suffix-law =
-      let b = sameBytes f f (drop (length v - length o) v) o in (
-        (λ t. by-operand o (ends-found (and-right (not (emptyBytes v)) b t)) (not-empty v (and-left (not (emptyBytes v)) b t))),
-        ⊎-elim
-            (λ p. and-both (not (emptyBytes v)) b (some-byte v (longer f v o (p .1 .0) [] (p .1 .1 ∙ ap (λ (l : List ℕ). p .1 .0 ++ l) (sym (append-nil (fold f o)))) (p .0))) (ends-holds (p .1 .0) (p .1 .1)))
-            (λ p. and-both (not (emptyBytes v)) b (some-byte v (p .1)) (ends-holds (fold f v) (rw (p .0) (sym (append-nil (fold f v)))))),
-      )
+      Iff·trans (and-law (not (emptyBytes v)) (sameBytes f f (drop (length v - length o) v) o))
+      (Iff·trans (Iff·and (byte-law v) (ends-found, λ (front, e). ends-holds front e))
+      (by-operand v o (λ (front, e). longer f v o front [] (e ∙ rw append-nil)) (λ e. (fold f v, rw (e, append-nil)))))
 
 -- [att=val] is W3C's.
 pub equal-law : (f : Bool) (v o : List ℕ) → T (equalHolds f v o) ↔ Equal f v o
@@ -154,13 +146,10 @@ module _ (f : Bool) (v o : List ℕ) where
   pub dash-law : T (dashHolds f v o) ↔ Dash f v o
   unfolding dashHolds Dash
   dash-law =
-      let s = sameBytes f f v o in
       let b = beginsWith f v o in
-      let d = eqb (getD v (length o) 0) 45 in (
-        (λ t. ⊎-elim (λ u. inl (same-law f f v o .0 u)) (λ u. inr (dash-found (and-left b d u) (eqb→eq _ _ (and-right b d u)))) (or-cases s (b && d) t)),
-        (λ p. ⊎-elim (λ e. or-left s (b && d) (same-law f f v o .1 e))
-            (λ r. or-right s (b && d) (and-both b d (begins-holds f v o (45 ∷ r .0) (r .1)) (holds (eq-eqb _ _ (dash-at (r .0) (r .1)))))) p),
-      )
+      let d = eqb (getD v (length o) 0) 45 in
+      Iff·trans (or-law (sameBytes f f v o) (b && d)) (either (same-law f f v o) (Iff·trans (and-law b d)
+      (λ (t, e). dash-found t (eqb→eq _ _ e), λ (rest, e). (begins-holds f v o (45 ∷ rest) e, holds (eq-eqb _ _ (dash-at rest e))))))
 
 -- ---- substring
 
@@ -170,23 +159,22 @@ module _ (f : Bool) (o : List ℕ) where
   contains-found [] t = ([], begins-found f [] o t)
   contains-found (x ∷ xs) t =
       ⊎-elim (λ u. ([], begins-found f (x ∷ xs) o u))
-      (λ u. let r = contains-found xs u in (foldByte f x ∷ r .0, (r .1 .0, ap (λ (l : List ℕ). foldByte f x ∷ l) (r .1 .1))))
-      (or-cases (beginsWith f (x ∷ xs) o) (containsBytes f xs o) t)
+      (λ u. let (front, (rest, e)) = contains-found xs u in (foldByte f x ∷ front, (rest, ap (λ (l : List ℕ). foldByte f x ∷ l) e)))
+      (or-law (beginsWith f (x ∷ xs) o) (containsBytes f xs o) .0 t)
 
   contains-holds : (v front rest : List ℕ) → fold f v ≡ front ++ (fold f o ++ rest) → T (containsBytes f v o)
   unfolding containsBytes
   contains-holds [] [] rest e = begins-holds f [] o rest e
   contains-holds [] (y ∷ ys) rest e = let z = ap length e in absurd (omega arith)
-  contains-holds (x ∷ xs) [] rest e = or-left (beginsWith f (x ∷ xs) o) (containsBytes f xs o) (begins-holds f (x ∷ xs) o rest e)
-  contains-holds (x ∷ xs) (y ∷ ys) rest e = or-right (beginsWith f (x ∷ xs) o) (containsBytes f xs o) (contains-holds xs ys rest (cc))
+  contains-holds (x ∷ xs) [] rest e = or-law (beginsWith f (x ∷ xs) o) _ .1 (inl (begins-holds f (x ∷ xs) o rest e))
+  contains-holds (x ∷ xs) (y ∷ ys) rest e = or-law (beginsWith f (x ∷ xs) o) _ .1 (inr (contains-holds xs ys rest (cc)))
 
 -- [att*=val] is W3C's.
 pub substring-law : (f : Bool) (v o : List ℕ) → T (substringHolds f v o) ↔ Substring f v o
 unfolding substringHolds Substring
-substring-law f v o = (
-  (λ t. (not-empty o (and-left (not (emptyBytes o)) (containsBytes f v o) t), contains-found f o v (and-right (not (emptyBytes o)) (containsBytes f v o) t))),
-  (λ p. and-both (not (emptyBytes o)) (containsBytes f v o) (some-byte o (p .0)) (contains-holds f o v (p .1 .0) (p .1 .1 .0) (p .1 .1 .1))),
-)
+substring-law f v o =
+    Iff·trans (and-law (not (emptyBytes o)) (containsBytes f v o))
+    (Iff·and (byte-law o) (contains-found f o v, λ (front, (rest, e)). contains-holds f o v front rest e))
 
 -- ---- includes
 
@@ -195,16 +183,15 @@ unfolding somePart
 some-found f o [] t = absurd t
 some-found f o (p ∷ ps) t =
     ⊎-elim (λ u. (p, (List·Memᴰ·head refl, same-law f f p o .0 u)))
-    (λ u. let r = some-found f o ps u in (r .0, (List·Memᴰ·tail (r .1 .0), r .1 .1)))
-    (or-cases (sameBytes f f p o) (somePart f o ps) t)
+    (λ u. let (q, (m, e)) = some-found f o ps u in (q, (List·Memᴰ·tail m, e)))
+    (or-law (sameBytes f f p o) (somePart f o ps) .0 t)
 
 some-holds : (f : Bool) (o : List ℕ) (ps : List (List ℕ)) (p : List ℕ) → List·Memᴰ p ps → fold f p ≡ fold f o → T (somePart f o ps)
 unfolding somePart
 some-holds f o [] p m e = absurd (List·Memᴰ·not-nil m)
 some-holds f o (q ∷ ps) p m e =
-    ⊎-elim (λ h. or-left (sameBytes f f q o) (somePart f o ps) (same-law f f q o .1 (ap (fold f) (sym h) ∙ e)))
-    (λ n. or-right (sameBytes f f q o) (somePart f o ps) (some-holds f o ps p n e))
-    (List·Memᴰ·cases-cons m)
+    or-law (sameBytes f f q o) (somePart f o ps) .1
+    (⊎-elim (λ h. inl (same-law f f q o .1 (ap (fold f) (sym h) ∙ e))) (λ n. inr (some-holds f o ps p n e)) (List·Memᴰ·cases-cons m))
 
 -- a byte is white space under every case rule, or under none
 no-space : (b : ℕ) → 33 ≤ b → spaceByte b ≡ false
@@ -237,12 +224,12 @@ pub includes-law : (f : Bool) (v o : List ℕ) → T (includesHolds f v o) ↔ (
 unfolding includesHolds Includes
 includes-law f v o = (λ t. to o (some-found f o (split v) t), from)
   where
-    to : (o : List ℕ) → (p : List ℕ) × (List·Memᴰ p (split v) × (fold f p ≡ fold f o)) → ((o ≡ [] → ⊥) × (Clear o × ((p : List ℕ) × (Part v p × (fold f p ≡ fold f o))))) ⊎ ((o ≡ []) × Part v [])
+    to : (o : List ℕ) → (p : List ℕ) × (List·Memᴰ p (split v) × (fold f p ≡ fold f o)) → Includes f v o ⊎ ((o ≡ []) × Part v [])
     to [] (p, (m, e)) = inr (refl, subst (λ (q : List ℕ). Part v q) (nothing-folds f p e) (part-law v p .0 m))
     to (b ∷ o) (p, (m, e)) =
         let q = part-law v p .0 m in
-        inl ((λ z. let k = ap length z in omega arith), (clear-same f p (b ∷ o) e (q .clear), (p, (q, e))))
+        inl (λ z. let k = ap length z in omega arith, (clear-same f p (b ∷ o) e (q .clear), (p, (q, e))))
 
-    from : ((o ≡ [] → ⊥) × (Clear o × ((p : List ℕ) × (Part v p × (fold f p ≡ fold f o))))) ⊎ ((o ≡ []) × Part v []) → T (somePart f o (split v))
+    from : Includes f v o ⊎ ((o ≡ []) × Part v []) → T (somePart f o (split v))
     from (inl (n, (c, (p, (q, e))))) = some-holds f o (split v) p (part-law v p .1 q) e
     from (inr (z, q)) = some-holds f o (split v) [] (part-law v [] .1 q) (ap (fold f) (sym z))

@@ -3,15 +3,6 @@ use borrow.Author.Needs.{needs}
 use Rattle.cells.proofs.part_of.Statement.{statement}
 use Rattle.cells.proofs.part_of.Tie as tie
 
-returns : tie.Need-returns
-returns c = part-none _ _ _ (c .before .if1 .taken)
-
-returns-2 : tie.Need-returns-2
-returns-2 c = part-past _ _ _ (c .before .if2 .taken)
-
-returns-3 : tie.Need-returns-3
-returns-3 c = part-rest _ _ _ (c .before .if3 .taken) (c .before .before .if2 .left)
-
 pub part-of-spec : {M : Type 1} → statement M
 part-of-spec =
     tie.close
@@ -19,15 +10,15 @@ part-of-spec =
     (λ c. search needs)
     (λ c. search needs)
     (λ c. search needs)
-    returns
+    (λ c. part-none _ _ _ (c .before .if1 .taken))
     (λ c. search needs)
     (λ c. search needs)
     (λ c. search needs)
-    returns-2
+    (λ c. part-past _ _ _ (c .before .if2 .taken))
     (λ c. search needs)
     (λ c. search needs)
     (λ c. search needs)
-    returns-3
+    (λ c. part-rest _ _ _ (c .before .if3 .taken) (c .before .before .if2 .left))
     (λ c. search needs)
     (λ c. search needs)
     (λ c. search needs)

@@ -4,46 +4,43 @@ use Prim.Native.Nat.{_-_, _≤_}
 use native.Mathlib.Omega.{arith}
 use lib.ListN.{drop}
 use Rattle.names.specs.Names.{amongNames, voidNames}
-use Rattle.names.proofs.Table.{lens, names, end-fits, void-yes, void-no}
+use Rattle.names.proofs.Table.{Ruled, end-inside, end-fits, void-step}
 use borrow.Author.Needs.{needs}
 use Rattle.names.proofs.is_html_void.Statement.{statement}
 use Rattle.names.proofs.is_html_void.Tie as tie
 
 abbrev Inv-loop : tie.InvT-loop
-Inv-loop name names lengths k₀ k = (k ≤ 17) × (amongNames true name voidNames ≡ amongNames true name (drop k voidNames))
+Inv-loop name names lengths k₀ k = (k ≤ 17) × (Ruled names lengths × (amongNames true name voidNames ≡ amongNames true name (drop k voidNames)))
 
 abbrev μ-loop : tie.MeasureT-loop
 μ-loop name names lengths k₀ k = 17 - k
 
 loop-holds : tie.Need-loop-holds Inv-loop μ-loop
-loop-holds c = (omega arith, refl)
+unfolding Ruled voidNames
+loop-holds c = (omega arith, (tt, refl))
 
 add-end : tie.Need-add-end Inv-loop μ-loop
-unfolding lens
-add-end c = omega (arith, end-fits (c .before .loop .k) (omega arith))
+add-end c = end-fits _ _ (c .before .loop .inv .1 .0) _ (omega arith)
 
 part-same-end : tie.Need-part-same-end Inv-loop μ-loop
-unfolding lens
-part-same-end c = omega (arith, end-fits (c .before .before .loop .k) (omega arith))
+part-same-end c = end-inside _ _ (c .before .before .loop .inv .1 .0) _ (omega arith)
 
 returns : tie.Need-returns Inv-loop μ-loop
-unfolding lens names
 returns c =
     let l = c .before .before .before .before .before in
-    sym (l .loop .inv .1 ∙ void-yes _ (l .loop .k) (omega arith) (sym (c .before .same .ensures) ∙ c .if1 .taken))
+    sym (l .loop .inv .1 .1 ∙ void-step _ _ (l .loop .inv .1 .0) (l .loop .k) (omega arith) _ ∙ rw (sym (c .before .same .ensures) ∙ c .if1 .taken))
 
 loop-again : tie.Need-loop-again Inv-loop μ-loop
-unfolding lens names
 loop-again c =
     let l = c .before .before .before .before .before in
-    (omega arith, l .loop .inv .1 ∙ void-no _ (l .loop .k) (omega arith) (sym (c .before .same .ensures) ∙ c .if1 .left))
+    (omega arith, (l .loop .inv .1 .0, l .loop .inv .1 .1 ∙ void-step _ _ (l .loop .inv .1 .0) (l .loop .k) (omega arith) _ ∙ rw (sym (c .before .same .ensures) ∙ c .if1 .left)))
 
 returns-2 : tie.Need-returns-2 Inv-loop μ-loop
 unfolding voidNames amongNames
 returns-2 c =
     let l = c .before in
     let e : l .loop .k ≡ 17 = omega arith in
-    sym (l .loop .inv .1 ∙ rw e)
+    sym (l .loop .inv .1 .1 ∙ rw e)
 
 pub is-html-void-spec : {M : Type 1} → statement M
 is-html-void-spec =

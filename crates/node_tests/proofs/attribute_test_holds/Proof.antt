@@ -1,15 +1,11 @@
-use Rattle.node_tests.proofs.TestLaws.{attribute-plain, attribute-opposite}
+use borrow.Author.Tests.{eq-eqb, ne-eqb}
+use Rattle.node_tests.specs.Tests.{attributeTestHolds, readAttributeTest, opposite}
 use borrow.Author.Needs.{needs}
 use Rattle.node_tests.proofs.attribute_test_holds.Statement.{statement}
 use Rattle.node_tests.proofs.attribute_test_holds.Tie as tie
 
-returns : tie.Need-returns
-returns c = let k = c .before .before in attribute-plain _ _ _ _ _ _ _ (k .before .before .get8 .ensures) (k .before .part-of .ensures) (k .attribute-kind .ensures) (c .before .get82 .ensures) (c .if1 .taken)
-
-returns-2 : tie.Need-returns-2
-returns-2 c = let k = c .before .before in attribute-opposite _ _ _ _ _ _ _ (k .before .before .get8 .ensures) (k .before .part-of .ensures) (k .attribute-kind .ensures) (c .before .get82 .ensures) (c .if1 .left)
-
 pub attribute-test-holds-spec : {M : Type 1} → statement M
+unfolding attributeTestHolds readAttributeTest opposite
 attribute-test-holds-spec =
     tie.close
     (tie.spec
@@ -17,5 +13,5 @@ attribute-test-holds-spec =
     (λ c κs. search needs)
     (λ c κs. search needs)
     (λ c κs. search needs)
-    returns
-    returns-2)
+    (λ c. let k = c .before .before in rw (← c .before .get82 .ensures, eq-eqb _ _ (c .if1 .taken), ← k .before .before .get8 .ensures, ← k .before .part-of .ensures) (k .attribute-kind .ensures))
+    (λ c. let k = c .before .before in rw (← c .before .get82 .ensures, ne-eqb _ _ (c .if1 .left), ← k .before .before .get8 .ensures, ← k .before .part-of .ensures, ← k .attribute-kind .ensures)))

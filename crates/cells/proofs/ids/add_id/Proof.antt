@@ -3,8 +3,12 @@ use borrow.Author.Needs.{needs}
 use Rattle.cells.proofs.ids.add_id.Statement.{statement}
 use Rattle.cells.proofs.ids.add_id.Tie as tie
 
-returns : tie.Need-returns
-returns c = with-is _ _ _ _ (c .before .before .before .before .get64 .ensures) (c .before .before .put64 .ensures)
-
 pub add-id-spec : {M : Type 1} → statement M
-add-id-spec = tie.close (tie.spec (λ c κs. search needs) (λ c. search needs) (λ c κs. search needs) (λ c. search needs) returns)
+add-id-spec =
+    tie.close
+    (tie.spec
+    (λ c κs. search needs)
+    (λ c. search needs)
+    (λ c κs. search needs)
+    (λ c. search needs)
+    (λ c. with-is _ _ _ _ (c .before .before .before .before .get64 .ensures) (c .before .before .put64 .ensures)))

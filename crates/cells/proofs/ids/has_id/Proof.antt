@@ -3,9 +3,6 @@ use borrow.Author.Needs.{needs}
 use Rattle.cells.proofs.ids.has_id.Statement.{statement}
 use Rattle.cells.proofs.ids.has_id.Tie as tie
 
-returns : tie.Need-returns
-unfolding hasId
-returns c = rw (c .get64 .ensures)
-
 pub has-id-spec : {M : Type 1} → statement M
-has-id-spec = tie.close (tie.spec (λ c κs. search needs) (λ c. search needs) returns)
+unfolding hasId
+has-id-spec = tie.close (tie.spec (λ c κs. search needs) (λ c. search needs) (λ c. rw (c .get64 .ensures)))

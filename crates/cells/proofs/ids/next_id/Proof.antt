@@ -28,7 +28,7 @@ fits c = c .shared-slice-known .given (c .before .before .before .loop .i) .fits
 found : (c : tie.Then2 Inv-loop μ-loop) → let l = c .before .before .before .before in l .loop .passed + trailingZeros 64 (getD (l .before .args .words .now) (l .loop .i) 0 / 2 ^ l .loop .passed) < 64
 found c =
     let l = c .before .before .before .before in
-    next-small (l .before .args .words .now) (l .loop .i) (l .loop .passed) (fits (c .before)) 65536 (omega arith) (omega arith)
+    next-small (l .before .args .words .now) (l .loop .i) (l .loop .passed) (fits (c .before)) (omega arith)
 
 loop-holds : tie.Need-loop-holds Inv-loop μ-loop
 loop-holds c = let e : c .args .from / 64 * 64 + c .args .from % 64 ≡ c .args .from = omega arith in (omega arith, rw e)

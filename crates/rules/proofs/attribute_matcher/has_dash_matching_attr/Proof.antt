@@ -1,29 +1,20 @@
-use mathlib.Core.Path.{sym, _∙_}
-use Rattle.rules.proofs.Turns.{dash-equal, dash-short, dash-other, dash-begins}
+use mathlib.Core.Bool.{and-false, and-true}
+use borrow.Author.Tests.{eq-eqb, ne-eqb}
+use lib.ListN.{List·getD-eq-default}
+use Rattle.rules.specs.Operators.{dashHolds}
 use borrow.Author.Needs.{needs}
 use Rattle.rules.proofs.attribute_matcher.has_dash_matching_attr.Statement.{statement}
 use Rattle.rules.proofs.attribute_matcher.has_dash_matching_attr.Tie as tie
 
-returns : tie.Need-returns
-returns c = sym (dash-equal _ _ _ (sym (c .before .same .ensures) ∙ c .if1 .taken))
-
-returns-2 : tie.Need-returns-2
-returns-2 c = sym (dash-short _ _ _ (sym (c .before .before .same .ensures) ∙ c .before .if1 .left) (c .if2 .taken))
-
-returns-3 : tie.Need-returns-3
-returns-3 c = sym (dash-other _ _ _ (sym (c .before .before .before .before .same .ensures) ∙ c .before .before .before .if1 .left) (c .if3 .taken))
-
-returns-4 : tie.Need-returns-4
-returns-4 c = c .begins .ensures ∙ sym (dash-begins _ _ _ (sym (c .before .before .before .before .before .same .ensures) ∙ c .before .before .before .before .if1 .left) (c .before .if3 .left))
-
 pub has-dash-matching-attr-spec : {M : Type 1} → statement M
+unfolding dashHolds
 has-dash-matching-attr-spec =
     tie.close
     (tie.spec
     (λ c κs. search needs)
-    returns
-    returns-2
+    (λ c. simp (← c .before .same .ensures, c .if1 .taken))
+    (λ c. search (← c .before .before .same .ensures, c .before .if1 .left, List·getD-eq-default, and-false))
     (λ c. search needs)
-    returns-3
+    (λ c. search (← c .before .before .before .before .same .ensures, c .before .before .before .if1 .left, ne-eqb, and-false))
     (λ c κs. search needs)
-    returns-4)
+    (λ c. search (← c .before .before .before .before .before .same .ensures, c .before .before .before .before .if1 .left, eq-eqb, and-true)))

@@ -1,10 +1,11 @@
-use mathlib.Core.Path.{_≡_, sym, _∙_}
+use mathlib.Core.Path.{_≡_, refl, sym, _∙_}
 use mathlib.Core.Logic.{⊎-elim}
 use Prim.Native.Nat.{_-_, _≤_}
 use native.Mathlib.Omega.{arith}
-use lib.ListN.{length, take, drop}
-use Rattle.rules.specs.Operators.{parts, somePart, includesHolds}
-use Rattle.rules.proofs.Turns.{includes-start, parts-hit, turn-space, turn-other, last-part, rest-is}
+use lib.ListN.{length, drop}
+use Rattle.cells.specs.Numbers.{part}
+use Rattle.rules.specs.Operators.{parts, split, somePart, includesHolds}
+use Rattle.rules.proofs.Turns.{turn-hit, turn-space, turn-other, last-part, rest-is}
 use borrow.Author.Needs.{needs}
 use Rattle.rules.proofs.attribute_matcher.matches_splitted_by_whitespace.Statement.{
   statement,
@@ -12,26 +13,27 @@ use Rattle.rules.proofs.attribute_matcher.matches_splitted_by_whitespac
 use Rattle.rules.proofs.attribute_matcher.matches_splitted_by_whitespace.Tie as tie
 
 abbrev Inv-loop : tie.InvT-loop
-Inv-loop value operand f start₀ i₀ start i = (start ≤ i) × ((i ≤ length value) × (includesHolds f value operand ≡ somePart f operand (parts (take (i - start) (drop start value)) (drop i value))))
+Inv-loop value operand f start₀ i₀ start i = (start ≤ i) × ((i ≤ length value) × (includesHolds f value operand ≡ somePart f operand (parts (part value start i) (drop i value))))
 
 abbrev μ-loop : tie.MeasureT-loop
 μ-loop value operand f start₀ i₀ start i = length value - i
 
 loop-holds : tie.Need-loop-holds Inv-loop μ-loop
-loop-holds c = (omega arith, (omega arith, includes-start _ _ _))
+unfolding includesHolds split
+loop-holds c = (omega arith, (omega arith, refl))
 
 returns : tie.Need-returns Inv-loop μ-loop
 returns c =
     let l = c .before .before .before .before .before .before .before in
     let k = c .before .before .before in
-    sym (l .loop .inv .1 .1 ∙ parts-hit _ _ _ _ (l .loop .i) (omega arith) (sym (k .before .is-attr-whitespace .ensures) ∙ k .if1 .taken) (sym (c .before .same .ensures) ∙ c .if2 .taken))
+    sym (l .loop .inv .1 .1 ∙ turn-hit _ _ _ (l .loop .i) (omega arith) _ (sym (k .before .is-attr-whitespace .ensures) ∙ k .if1 .taken) (sym (c .before .same .ensures) ∙ c .if2 .taken))
 
 loop-again : tie.Need-loop-again Inv-loop μ-loop
 loop-again c =
     let l = c .before .before .before .before in
     ⊎-elim
-    (λ w. (omega (arith, w .4), (omega arith, l .loop .inv .1 .1 ∙ turn-space _ _ _ _ (l .loop .i) _ (omega arith) (sym (c .before .is-attr-whitespace .ensures) ∙ w .0 .taken) (sym (w .2 .ensures) ∙ w .3 .left) (w .4))))
-    (λ w. (omega (arith, w .1), (omega arith, l .loop .inv .1 .1 ∙ turn-other _ _ _ (l .loop .i) _ _ (omega arith) (omega arith) (sym (c .before .is-attr-whitespace .ensures) ∙ w .0 .left) (w .1))))
+    (λ w. (omega (arith, w .4), (omega arith, l .loop .inv .1 .1 ∙ turn-space _ _ _ (l .loop .i) (omega arith) _ _ (sym (c .before .is-attr-whitespace .ensures) ∙ w .0 .taken) (sym (w .2 .ensures) ∙ w .3 .left) (w .4))))
+    (λ w. (omega (arith, w .1), (omega arith, l .loop .inv .1 .1 ∙ turn-other _ _ _ (l .loop .i) (omega arith) _ _ (omega arith) (sym (c .before .is-attr-whitespace .ensures) ∙ w .0 .left) (w .1))))
     (c .if1 .came)
 
 returns-2 : tie.Need-returns-2 Inv-loop μ-loop

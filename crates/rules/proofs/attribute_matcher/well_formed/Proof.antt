@@ -4,7 +4,7 @@ use native.Mathlib.Omega.{arith}
 use borrow.Author.Tests.{not-true, not-false}
 use lib.ListN.{length, drop}
 use Rattle.rules.specs.Attributes.{wellFormed}
-use Rattle.rules.proofs.OutlineTurns.{lies, formed-short, formed-name, formed-value, formed-more, formed-end}
+use Rattle.rules.proofs.OutlineTurns.{lies, formed-short, formed-step, formed-end}
 use borrow.Author.Needs.{needs}
 use Rattle.rules.proofs.attribute_matcher.well_formed.Statement.{statement}
 use Rattle.rules.proofs.attribute_matcher.well_formed.Tie as tie
@@ -15,34 +15,25 @@ Inv-loop size outlines i₀ i = (i ≤ length outlines) × (wellFormed size outl
 abbrev μ-loop : tie.MeasureT-loop
 μ-loop size outlines i₀ i = length outlines - i
 
-loop-holds : tie.Need-loop-holds Inv-loop μ-loop
-loop-holds c = (omega arith, refl)
-
-returns : tie.Need-returns Inv-loop μ-loop
-returns c = let l = c .before .before in sym (l .loop .inv .1 ∙ formed-short _ _ (l .loop .i) (c .before .loop-test .taken) (c .if1 .taken))
-
 returns-2 : tie.Need-returns-2 Inv-loop μ-loop
 returns-2 c =
     let k = c .before in
     let l = k .before .before .before .before .before in
-    sym (l .loop .inv .1 ∙ formed-name _ _ (l .loop .i) (omega arith) (lies _ _ _ _ _ _ (k .before .before .at32 .ensures) (k .before .at322 .ensures) (k .lies-within .ensures) ∙ not-true _ (c .if2 .taken)))
+    sym (l .loop .inv .1 ∙ formed-step _ _ (l .loop .i) (omega arith) ∙ rw (lies _ _ _ _ _ _ (k .before .before .at32 .ensures) (k .before .at322 .ensures) (k .lies-within .ensures) ∙ not-true _ (c .if2 .taken)))
 
 returns-3 : tie.Need-returns-3 Inv-loop μ-loop
 returns-3 c =
     let m = c .before in
     let k = m .before .before .before .before in
     let l = k .before .before .before .before .before in
-    sym (l .loop .inv .1 ∙ formed-value _ _ (l .loop .i) (omega arith) (lies _ _ _ _ _ _ (k .before .before .at32 .ensures) (k .before .at322 .ensures) (k .lies-within .ensures) ∙ not-false _ (m .before .before .before .if2 .left)) (lies _ _ _ _ _ _ (m .before .before .at323 .ensures) (m .before .at324 .ensures) (m .lies-within2 .ensures) ∙ not-true _ (c .if3 .taken)))
+    sym (l .loop .inv .1 ∙ formed-step _ _ (l .loop .i) (omega arith) ∙ rw (lies _ _ _ _ _ _ (k .before .before .at32 .ensures) (k .before .at322 .ensures) (k .lies-within .ensures) ∙ not-false _ (m .before .before .before .if2 .left), lies _ _ _ _ _ _ (m .before .before .at323 .ensures) (m .before .at324 .ensures) (m .lies-within2 .ensures) ∙ not-true _ (c .if3 .taken)))
 
 loop-again : tie.Need-loop-again Inv-loop μ-loop
 loop-again c =
     let m = c .before in
     let k = m .before .before .before .before in
     let l = k .before .before .before .before .before in
-    (omega arith, l .loop .inv .1 ∙ formed-more _ _ (l .loop .i) (omega arith) (lies _ _ _ _ _ _ (k .before .before .at32 .ensures) (k .before .at322 .ensures) (k .lies-within .ensures) ∙ not-false _ (m .before .before .before .if2 .left)) (lies _ _ _ _ _ _ (m .before .before .at323 .ensures) (m .before .at324 .ensures) (m .lies-within2 .ensures) ∙ not-false _ (c .if3 .left)))
-
-returns-4 : tie.Need-returns-4 Inv-loop μ-loop
-returns-4 c = sym (c .before .loop .inv .1 ∙ formed-end _ _ _ (c .loop-test .left))
+    (omega arith, l .loop .inv .1 ∙ formed-step _ _ (l .loop .i) (omega arith) ∙ rw (lies _ _ _ _ _ _ (k .before .before .at32 .ensures) (k .before .at322 .ensures) (k .lies-within .ensures) ∙ not-false _ (m .before .before .before .if2 .left), lies _ _ _ _ _ _ (m .before .before .at323 .ensures) (m .before .at324 .ensures) (m .lies-within2 .ensures) ∙ not-false _ (c .if3 .left)))
 
 pub well-formed-spec : {M : Type 1} → statement M
 well-formed-spec =
@@ -50,9 +41,9 @@ well-formed-spec =
     (tie.spec
     Inv-loop
     μ-loop
-    loop-holds
+    (λ c. (omega arith, refl))
     (λ c. search needs)
-    returns
+    (λ c. let l = c .before .before in sym (l .loop .inv .1 ∙ formed-short _ _ (l .loop .i) (c .before .loop-test .taken) (c .if1 .taken)))
     (λ c κs. search needs)
     (λ c. search needs)
     (λ c κs. search needs)
@@ -67,4 +58,4 @@ well-formed-spec =
     (λ c. search needs)
     (λ c. search needs)
     loop-again
-    returns-4)
+    (λ c. sym (c .before .loop .inv .1 ∙ formed-end _ _ _ (c .loop-test .left))))

@@ -1,4 +1,5 @@
-use Rattle.rules.proofs.Signed.{wide, diff-abs, abs-fits, nonzero, s-is, d-is, rem-fits, answer-zero, answer-part, answer-falls, answer-rises}
+use native.Mathlib.Omega.{arith}
+use Rattle.rules.proofs.Signed.{wide, diff-abs, abs-fits, s-is, d-is, rem-fits, answer-zero, answer-part, answer-falls, answer-rises}
 use borrow.Author.Needs.{needs}
 use Rattle.rules.proofs.nth.nth.Statement.{statement}
 use Rattle.rules.proofs.nth.nth.Tie as tie
@@ -16,13 +17,13 @@ returns : tie.Need-returns
 returns c = let b = c .before in answer-zero _ _ _ (b .fits .step) (b .fits .offset) (b .fits .index) (c .if1 .taken)
 
 rem-if2 : tie.Need-rem-if2
-rem-if2 c = let b = c .before in (nonzero _ (c .if1 .left), rem-fits _ _ _ (b .fits .step) (b .fits .offset) (b .fits .index))
+rem-if2 c = let b = c .before in (omega arith, rem-fits _ _ _ (b .fits .step) (b .fits .offset) (b .fits .index))
 
 returns-2 : tie.Need-returns-2
 returns-2 c = let b = c .before .before in answer-part _ _ _ (b .fits .step) (b .fits .offset) (b .fits .index) (c .before .if1 .left) (c .if2 .taken)
 
 returns-3 : tie.Need-returns-3
-returns-3 c = let b = c .before .before .before in answer-falls _ _ _ (b .fits .step) (b .fits .offset) (b .fits .index) (c .before .if2 .left) (c .if3 .taken)
+returns-3 c = let b = c .before .before .before in answer-falls _ _ _ (b .fits .step) (b .fits .offset) (b .fits .index) (c .before .before .if1 .left) (c .before .if2 .left) (c .if3 .taken)
 
 returns-4 : tie.Need-returns-4
 returns-4 c = let b = c .before .before .before in answer-rises _ _ _ (b .fits .step) (b .fits .offset) (b .fits .index) (c .before .before .if1 .left) (c .before .if2 .left) (c .if3 .left)
