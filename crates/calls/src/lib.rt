@@ -1,4 +1,7 @@
 //! Library cases: calls that go straight to the machine's functions, and the lines that answer them.
+use answers::answer_attributes;
+use answers::answer_start;
+use answers::put_popped;
 use cells::at8;
 use cells::numbers::u32_at;
 use cells::part_of;
@@ -13,9 +16,6 @@ use machine::Top;
 use machine::TopReply;
 use machine::fresh_machine;
 use machine::id_set;
-use trace::answers::answer_attributes;
-use trace::answers::answer_start;
-use trace::answers::put_popped;
 ghost use mathlib.Core.Path.{_≡_};
 ghost use Prim.Native.Nat.{_+_, _*_, _≤_, _<_};
 ghost use lib.ListN.{length};

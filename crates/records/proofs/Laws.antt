@@ -1,6 +1,6 @@
 -- Each way out of reading a record.
 use mathlib.Core.Bool.{Bool, true, false}
-use mathlib.Core.List.{List}
+use mathlib.Core.List.{List, [], _∷_}
 use mathlib.Core.Path.{_≡_, refl, sym, ap, _∙_}
 use Prim.Native.Nat.{ℕ, zero, suc, _+_, _-_, _≤_, _<_}
 use native.Mathlib.Numerals.{sub-one}
@@ -10,7 +10,7 @@ use lib.Dec.{eqb}
 use lib.ListN.{length, getD, set}
 use native.Mathlib.Nat.{add-assoc}
 use Rattle.cells.specs.Numbers.{be16, be32}
-use Rattle.cells.specs.Stretches.{written}
+use Rattle.cells.specs.Stretches.{written, cellsFrom, cells-above}
 use Rattle.records.specs.Records.{recordEnd, startOf, nameEnd, valueEnd, Read, read, Stepped, stepped, readAttribute, onward, readAttributes, attributesOf, recordOf}
 use Rattle.records.specs.Sheets.{sheetLength, sheetEnd}
 use Rattle.records.specs.declared.Cut.{Cut}
@@ -123,3 +123,20 @@ length-over s n e h = simp (← e, lt-ltb _ _ h)
 pub length-said : (s : List ℕ) (n : ℕ) → n ≡ be32 s 1 → n ≤ 65536 → n ≡ sheetLength s
 unfolding sheetLength
 length-said s n e h = simp (← e, le-ltb _ _ h)
+
+-- ---- bytes moved to the front: the next one, and those behind it stay
+
+pub keep-more : (s : List ℕ) (at i m : ℕ) → 0 < m → written s i (cellsFrom s (at + i) m) ≡ written (set s i (getD s (at + i) 0)) (i + 1) (cellsFrom (set s i (getD s (at + i) 0)) (at + (i + 1)) (m - 1))
+unfolding written cellsFrom
+keep-more s at i zero h = absurd (omega arith)
+keep-more s at i (suc m) h =
+    let e : at + i + 1 ≡ at + (i + 1) = omega arith in
+    rw (sub-one, e, ← cells-above s i (getD s (at + i) 0 ∷ []) (at + (i + 1)) m (omega arith))
+
+pub keep-start : (s : List ℕ) (at n : ℕ) → written s 0 (cellsFrom s at n) ≡ written s 0 (cellsFrom s (at + 0) (n - 0))
+keep-start s at n = let e : at + 0 ≡ at = omega arith in let f : n - 0 ≡ n = omega arith in rw (e, f)
+
+pub keep-all : (s : List ℕ) (at i m : ℕ) → m ≤ 0 → written s i (cellsFrom s at m) ≡ s
+unfolding written cellsFrom
+keep-all s at i zero h = refl
+keep-all s at i (suc m) h = absurd (omega arith)

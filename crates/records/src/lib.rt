@@ -5,8 +5,9 @@ use cells::numbers::u16_at;
 use cells::numbers::u32_at;
 use cells::put32;
 ghost use mathlib.Core.Path.{_≡_};
-ghost use Prim.Native.Nat.{_+_, _≤_, _<_};
+ghost use Prim.Native.Nat.{_+_, _-_, _≤_, _<_};
 ghost use lib.ListN.{length};
+ghost use Rattle.cells.specs.Stretches.{cellsFrom, written};
 ghost use Rattle.records.specs.Records.{recordEnd, startOf, read, readAttribute, attributesOf, recordOf, stepped, Fits};
 ghost use Rattle.records.specs.Sheets.{sheetLength, sheetEnd};
 
@@ -47,6 +48,19 @@ pub fn record_end(block: &[u8], at: usize) -> Cut
         return Cut::Short;
     }
     Cut::Whole(at + 2 + n)
+}
+
+// Moves the bytes from `at` to `end`, a record that was cut, to the front of their buffer, and answers how many they are.
+pub fn keep(s: &mut [u8], at: usize, end: usize) -> usize
+    requires { ⌜ (at ≤ end) × (end ≤ length (now s)) ⌝ }
+    ensures { λ r. ⌜ (r ≡ end - at) × (now (s .exit) ≡ written (now (s .entry)) 0 (cellsFrom (now (s .entry)) at (end - at))) ⌝ }
+{
+    let mut i = 0;
+    while i < end - at {
+        s[i] = s[at + i];
+        i += 1;
+    }
+    i
 }
 
 fn start_of(body: &[u8]) -> Record

@@ -1,2 +1,1 @@
-pub mod AnswerLaws
-pub mod RunLaws
+pub mod Laws

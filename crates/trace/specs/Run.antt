@@ -13,10 +13,10 @@ use Rattle.records.specs.Records.{recordEnd}
 use Rattle.records.specs.Sheets.{sheetEnd}
 use Rattle.records.specs.declared.Cut.{Cut}
 use Rattle.stack.specs.Stores.{Stores, stores}
-use Rattle.trace.specs.Answers.{Answered, turnOf, saying}
-use Rattle.trace.specs.declared.answers.Said.{Said}
-use Rattle.trace.specs.declared.run.Fed.{Fed}
-use Rattle.trace.specs.declared.run.Halt.{Halt}
+use Rattle.answers.specs.Answers.{Answered, turnOf, saying}
+use Rattle.answers.specs.declared.Said.{Said}
+use Rattle.trace.specs.declared.Fed.{Fed}
+use Rattle.trace.specs.declared.Halt.{Halt}
 
 abbrev pub fed : (used wrote : ℕ) → Halt → Fed
 fed used wrote halt = record { used = used; wrote = wrote; halt = halt }

@@ -3,7 +3,7 @@
 use calls::replay_calls;
 use cells::numbers::u32_at;
 use libc::STDOUT_FILENO;
-use trace::run::whole;
+use trace::whole;
 ghost use mathlib.Core.Path.{_≡_};
 ghost use Prim.Native.Nat.{_+_, _≤_, _<_};
 ghost use lib.ListN.{length};

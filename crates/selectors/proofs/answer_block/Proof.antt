@@ -6,7 +6,7 @@ use Rattle.selectors.proofs.answer_block.Reads as reads
 use Rattle.selectors.proofs.answer_block.Lts as lts
 use Rattle.io.proofs.write_all.Reads as write-all-reads
 use Rattle.selectors.proofs.advance.Reads as advance-reads
-use Rattle.trace.proofs.run.feed.Reads as feed-reads
+use Rattle.trace.proofs.feed.Reads as feed-reads
 
 -- src/main.rt:124:61
 sub-feed : tie.Need-sub-feed

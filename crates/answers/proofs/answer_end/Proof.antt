@@ -1,0 +1,37 @@
+use Rattle.answers.proofs.Laws.{said-pop}
+use borrow.Author.Needs.{needs}
+use Rattle.answers.proofs.answer_end.Statement.{statement}
+use Rattle.answers.proofs.answer_end.Tie as tie
+use Rattle.answers.proofs.answer_end.Reads as reads
+use Rattle.answers.proofs.answer_end.Lts as lts
+use Rattle.machine.proofs.end.Reads as end-reads
+use Rattle.answers.proofs.put_popped.Reads as put-popped-reads
+
+-- src/lib.rt:109:9
+end-requires : tie.Need-end-requires
+end-requires c κs = search needs
+
+-- src/lib.rt:110:5
+put-popped-requires : tie.Need-put-popped-requires
+put-popped-requires c κs = search needs
+
+-- src/lib.rt:93:1
+same-length : tie.Need-same-length
+same-length c = search needs
+
+-- src/lib.rt:93:1
+same-length-2 : tie.Need-same-length-2
+same-length-2 c = search needs
+
+-- src/lib.rt:93:1
+same-length-3 : tie.Need-same-length-3
+same-length-3 c = search needs
+
+-- src/lib.rt:93:1
+returns : tie.Need-returns
+returns c = (said-pop _ _ _ _ _ _ _ _ _ _ _ _ (c .before .before .before .before .before .before .before .before .end .ensures) (c .before .before .put-popped .ensures .0), c .before .before .put-popped .ensures .1)
+
+pub answer-end-spec : {M : Type 1} → statement M
+answer-end-spec =
+    tie.close
+    (tie.spec end-requires put-popped-requires same-length same-length-2 same-length-3 returns)

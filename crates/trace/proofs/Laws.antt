@@ -1,0 +1,158 @@
+-- Each way out of a run over a block.
+use mathlib.Core.Bool.{Bool, true, false, cond}
+use mathlib.Core.List.{List, [], _∷_}
+use mathlib.Core.Path.{_≡_, refl, sym, ap, _∙_, subst}
+use Prim.Native.Nat.{ℕ, zero, suc, _+_, _-_, _≤_, _<_}
+use native.Mathlib.Numerals.{sub-one}
+use native.Mathlib.Omega.{arith}
+use borrow.Author.Tests.{lt-ltb, le-ltb, ltb-false, lt-leb, le-leb, eq-eqb, ne-eqb}
+use lib.Dec.{ltb}
+use lib.ListN.{length, getD}
+use Rattle.cells.specs.Numbers.{part, be16}
+use Rattle.lines.specs.Lines.{Wrote, refusedLine, sheetLine, badTraceLine}
+use Rattle.machine.specs.Calls.{fresh, freshCall}
+use Rattle.machine.specs.declared.Made.{Made}
+use Rattle.records.specs.Records.{recordEnd}
+use Rattle.records.specs.Sheets.{sheetEnd}
+use Rattle.records.specs.declared.Cut.{Cut}
+use Rattle.stack.specs.Stores.{Stores, stores}
+use Rattle.answers.specs.Answers.{Answered, answered, Within, turnOf, saying}
+use Rattle.trace.specs.Run.{fed, Ran, ran, badFed, badOut, badRun, onCut, onSaid, answersFrom, feedOf, wholeRun, wholeBy, wholeOf}
+use Rattle.answers.specs.declared.Said.{Said}
+use Rattle.trace.specs.declared.Fed.{Fed}
+use Rattle.trace.specs.declared.Halt.{Halt}
+
+pub bad-fed : (place at wrote w : ℕ) → w ≡ wrote + length (badTraceLine (place + at)) → fed at w Halt.Over ≡ badFed place at wrote
+bad-fed place at wrote w e = ap (λ (k : ℕ). fed at k Halt.Over) e
+
+-- a whole record lies in its block
+pub end-bounds : (block : List ℕ) (at : ℕ) (cut : Cut) (end : ℕ) → cut ≡ recordEnd block at → cut ≡ Cut.Whole end → (at + 2 ≤ end) × (end ≤ length block)
+unfolding recordEnd
+end-bounds block at cut end e f = by (ltb (length block) (at + 2 + be16 block at)) refl (sym f ∙ e)
+  where
+    by : (b : Bool) → ltb (length block) (at + 2 + be16 block at) ≡ b → Cut.Whole end ≡ cond b Cut.Short (Cut.Whole (at + 2 + be16 block at)) → (at + 2 ≤ end) × (end ≤ length block)
+    by true t q = let z : _≡_ {A = ℕ} 0 1 = cc in absurd (omega arith)
+    by false t q =
+        let l = ltb-false (length block) (at + 2 + be16 block at) t in
+        let z : end ≡ at + 2 + be16 block at = cc in
+        (omega arith, omega arith)
+
+pub line-bound : (n next : ℕ) (said : Said) → said ≡ Said.Line next → Within n said → next ≤ n
+line-bound n next said e w = subst (λ (x : Said). Within n x) e w
+
+module _ (sheet program block : List ℕ) (last : Bool) (place : ℕ) where
+  pub run-done : (n at wrote : ℕ) (out : List ℕ) (s : Stores) → length block ≤ at → ran (fed at wrote Halt.Hungry) out s ≡ answersFrom sheet program block last place n at wrote out s
+  unfolding answersFrom
+  run-done zero at wrote out s h = refl
+  run-done (suc n) at wrote out s h = simp (le-leb _ _ h)
+
+  pub run-full : (n at wrote : ℕ) (out : List ℕ) (s : Stores) → 0 < n → at < length block → length out - wrote < 8192 → ran (fed at wrote Halt.Full) out s ≡ answersFrom sheet program block last place n at wrote out s
+  unfolding answersFrom
+  run-full zero at wrote out s p h g = absurd (omega arith)
+  run-full (suc n) at wrote out s p h g = simp (lt-leb _ _ h, lt-ltb _ _ g)
+
+  pub run-cut : (n at wrote : ℕ) (out : List ℕ) (s : Stores) → 0 < n → at < length block → 8192 ≤ length out - wrote → (cut : Cut) → cut ≡ recordEnd block at → cut ≡ Cut.Short
+      → last ≡ false → ran (fed at wrote Halt.Hungry) out s ≡ answersFrom sheet program block last place n at wrote out s
+  unfolding answersFrom onCut
+  run-cut zero at wrote out s p h g cut e f l = absurd (omega arith)
+  run-cut (suc n) at wrote out s p h g cut e f l = simp (lt-leb _ _ h, le-ltb _ _ g, ← e, f, l)
+
+  pub run-cut-last : (n at wrote : ℕ) (out : List ℕ) (s : Stores) → 0 < n → at < length block → 8192 ≤ length out - wrote → (cut : Cut) → cut ≡ recordEnd block at → cut ≡ Cut.Short
+      → last ≡ true → (r : Fed) (o : List ℕ) → r ≡ badFed place at wrote → o ≡ badOut place at wrote out → ran r o s ≡ answersFrom sheet program block last place n at wrote out s
+  unfolding answersFrom onCut
+  run-cut-last zero at wrote out s p h g cut e f l r o a b = absurd (omega arith)
+  run-cut-last (suc n) at wrote out s p h g cut e f l r o a b = simp (lt-leb _ _ h, le-ltb _ _ g, ← e, f, l) (λ i. ran (a i) (b i) s)
+
+  pub run-faulty : (n at wrote : ℕ) (out : List ℕ) (s : Stores) → 0 < n → at < length block → 8192 ≤ length out - wrote → (cut : Cut) (end : ℕ) → cut ≡ recordEnd block at → cut ≡ Cut.Whole end
+      → (body : List ℕ) → body ≡ part block (at + 2) end → (said : Said) (o₁ : List ℕ) (s₁ : Stores) → answered said o₁ s₁ ≡ saying (turnOf sheet program s body) out wrote → said ≡ Said.Faulty
+      → (r : Fed) (o : List ℕ) → r ≡ badFed place at wrote → o ≡ badOut place at wrote o₁ → ran r o s₁ ≡ answersFrom sheet program block last place n at wrote out s
+  unfolding answersFrom onCut onSaid
+  run-faulty zero at wrote out s p h g cut end e f body q said o₁ s₁ t u r o a b = absurd (omega arith)
+  run-faulty (suc n) at wrote out s p h g cut end e f body q said o₁ s₁ t u r o a b = simp (lt-leb _ _ h, le-ltb _ _ g, ← e, f, ← q, ← t, u) (λ i. ran (a i) (b i) s₁)
+
+  pub run-more : (n at wrote : ℕ) (out : List ℕ) (s : Stores) → 0 < n → at < length block → 8192 ≤ length out - wrote → (cut : Cut) (end : ℕ) → cut ≡ recordEnd block at → cut ≡ Cut.Whole end
+      → (body : List ℕ) → body ≡ part block (at + 2) end → (said : Said) (next : ℕ) (o₁ : List ℕ) (s₁ : Stores) → answered said o₁ s₁ ≡ saying (turnOf sheet program s body) out wrote → said ≡ Said.Line next
+      → answersFrom sheet program block last place n at wrote out s ≡ answersFrom sheet program block last place (n - 1) end next o₁ s₁
+  unfolding answersFrom onCut onSaid
+  run-more zero at wrote out s p h g cut end e f body q said next o₁ s₁ t u = absurd (omega arith)
+  run-more (suc n) at wrote out s p h g cut end e f body q said next o₁ s₁ t u = rw sub-one (simp (lt-leb _ _ h, le-ltb _ _ g, ← e, f, ← q, ← t, u))
+
+  -- the version, then the records
+  pub feed-later : (out : List ℕ) (s : Stores) (x : Ran) → 0 < place → x ≡ answersFrom sheet program block last place (length block) 0 0 out s → x ≡ feedOf sheet program block last place out s
+  unfolding feedOf
+  feed-later out s x h f = simp (lt-ltb _ _ h) f
+
+module _ (sheet program block : List ℕ) (last : Bool) (place : ℕ) (h : place ≤ 0) (out : List ℕ) (s : Stores) where
+  pub feed-nothing : length block ≡ 0 → last ≡ false → ran (fed 0 0 Halt.Hungry) out s ≡ feedOf sheet program block last place out s
+  unfolding feedOf
+  feed-nothing e l = simp (le-ltb _ _ h, eq-eqb _ _ e, l)
+
+  pub feed-empty : length block ≡ 0 → last ≡ true → (r : Fed) (o : List ℕ) → r ≡ badFed 0 0 0 → o ≡ badOut 0 0 0 out → ran r o s ≡ feedOf sheet program block last place out s
+  unfolding feedOf
+  feed-empty e l r o a b = simp (le-ltb _ _ h, eq-eqb _ _ e, l) (λ i. ran (a i) (b i) s)
+
+  pub feed-version : (length block ≡ 0 → ⊥) → (getD block 0 0 ≡ 1 → ⊥) → (r : Fed) (o : List ℕ) → r ≡ badFed 0 0 0 → o ≡ badOut 0 0 0 out → ran r o s ≡ feedOf sheet program block last place out s
+  unfolding feedOf
+  feed-version e v r o a b = simp (le-ltb _ _ h, ne-eqb _ _ e, ne-eqb _ _ v) (λ i. ran (a i) (b i) s)
+
+  pub feed-first : (length block ≡ 0 → ⊥) → getD block 0 0 ≡ 1 → (x : Ran) → x ≡ answersFrom sheet program block last place (length block) 1 0 out s → x ≡ feedOf sheet program block last place out s
+  unfolding feedOf
+  feed-first e v x f = simp (le-ltb _ _ h, ne-eqb _ _ e, eq-eqb _ _ v) f
+
+-- What is left to answer gives what the whole gives.
+pub record Left (sheet program block : List ℕ) (last : Bool) (place first : ℕ) (out₀ : List ℕ) (s₀ : Stores) (at wrote : ℕ) (out : List ℕ) (s : Stores) : Type 0 where
+  pub n : ℕ
+  pub enough : length block ≤ at + n
+  pub same : answersFrom sheet program block last place (length block) first 0 out₀ s₀ ≡ answersFrom sheet program block last place n at wrote out s
+
+pub left-start : (sheet program block : List ℕ) (last : Bool) (place first : ℕ) (out₀ : List ℕ) (s₀ : Stores) → Left sheet program block last place first out₀ s₀ first 0 out₀ s₀
+left-start sheet program block last place first out₀ s₀ = record { n = length block; enough = omega arith; same = refl }
+
+module _ (sheet program block : List ℕ) (last : Bool) (place first : ℕ) (out₀ : List ℕ) (s₀ : Stores) (at wrote : ℕ) (out : List ℕ) (s : Stores) (l : Left sheet program block last place first out₀ s₀ at wrote out s) where
+  some-left : at < length block → 0 < l .n
+  some-left h = let e = l .enough in omega arith
+
+  pub left-done : length block ≤ at → ran (fed at wrote Halt.Hungry) out s ≡ answersFrom sheet program block last place (length block) first 0 out₀ s₀
+  left-done h = run-done sheet program block last place (l .n) at wrote out s h ∙ sym (l .same)
+
+  pub left-full : at < length block → length out - wrote < 8192 → ran (fed at wrote Halt.Full) out s ≡ answersFrom sheet program block last place (length block) first 0 out₀ s₀
+  left-full h g = run-full sheet program block last place (l .n) at wrote out s (some-left h) h g ∙ sym (l .same)
+
+  module _ (h : at < length block) (g : 8192 ≤ length out - wrote) (cut : Cut) (e : cut ≡ recordEnd block at) where
+    pub left-cut : cut ≡ Cut.Short → last ≡ false → ran (fed at wrote Halt.Hungry) out s ≡ answersFrom sheet program block last place (length block) first 0 out₀ s₀
+    left-cut f q = run-cut sheet program block last place (l .n) at wrote out s (some-left h) h g cut e f q ∙ sym (l .same)
+
+    pub left-cut-last : cut ≡ Cut.Short → last ≡ true → (r : Fed) (o : List ℕ) → r ≡ badFed place at wrote → o ≡ badOut place at wrote out
+        → ran r o s ≡ answersFrom sheet program block last place (length block) first 0 out₀ s₀
+    left-cut-last f q r o a b = run-cut-last sheet program block last place (l .n) at wrote out s (some-left h) h g cut e f q r o a b ∙ sym (l .same)
+
+    module _ (end : ℕ) (f : cut ≡ Cut.Whole end) (body : List ℕ) (q : body ≡ part block (at + 2) end) (said : Said) (o₁ : List ℕ) (s₁ : Stores) (t : answered said o₁ s₁ ≡ saying (turnOf sheet program s body) out wrote) where
+      pub left-faulty : said ≡ Said.Faulty → (r : Fed) (o : List ℕ) → r ≡ badFed place at wrote → o ≡ badOut place at wrote o₁
+          → ran r o s₁ ≡ answersFrom sheet program block last place (length block) first 0 out₀ s₀
+      left-faulty u r o a b = run-faulty sheet program block last place (l .n) at wrote out s (some-left h) h g cut end e f body q said o₁ s₁ t u r o a b ∙ sym (l .same)
+
+      pub left-more : (next : ℕ) → said ≡ Said.Line next → Left sheet program block last place first out₀ s₀ end next o₁ s₁
+      left-more next u =
+          let i = l .enough in
+          let b = end-bounds block at cut end e f in
+          record {
+            n = l .n - 1;
+            enough = omega arith;
+            same = l .same ∙ run-more sheet program block last place (l .n) at wrote out s (some-left h) h g cut end e f body q said next o₁ s₁ t u;
+          }
+
+-- ---- the whole input
+
+module _ (input : List ℕ) (n : ℕ) (e : n ≡ sheetEnd input) (program out : List ℕ) (s : Stores) (made : Made) (program₁ rows₁ : List ℕ) (f : fresh made program₁ rows₁ ≡ freshCall (part input 0 n) false program s) where
+  pub whole-made : made ≡ Made.Made → (r : Fed) (o : List ℕ) (s₁ : Stores) → ran r o s₁ ≡ feedOf (part input 0 n) program₁ (part input n (length input)) true 0 out (stores rows₁ (s .names) (s .ids) (s .nodes))
+      → wholeRun (r .wrote) program₁ o s₁ ≡ wholeOf input program out s
+  unfolding wholeOf wholeBy
+  whole-made m r o s₁ q = rw (← e, ← f, m, ← q)
+
+  pub whole-sheet : (k place : ℕ) → made ≡ Made.Sheet k place → (r : ℕ) (o : List ℕ) → Wrote out 0 (sheetLine k place) r o → wholeRun r program₁ o (stores rows₁ (s .names) (s .ids) (s .nodes)) ≡ wholeOf input program out s
+  unfolding wholeOf wholeBy
+  whole-sheet k place m r o w = rw (← e, ← f, m, w .0, w .1)
+
+  pub whole-refused : (k : ℕ) → made ≡ Made.Refused k → (r : ℕ) (o : List ℕ) → Wrote out 0 (refusedLine k) r o → wholeRun r program₁ o (stores rows₁ (s .names) (s .ids) (s .nodes)) ≡ wholeOf input program out s
+  unfolding wholeOf wholeBy
+  whole-refused k m r o w = rw (← e, ← f, m, w .0, w .1)
