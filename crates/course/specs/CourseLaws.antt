@@ -15,7 +15,7 @@ use Rattle.rules.specs.Attributes.{Attribute, attributesOf}
 use Rattle.sheet.specs.Parser.{nodeCount}
 use Rattle.stack.specs.Stores.{heldKind, foundFrom}
 use Rattle.exec.specs.Cursors.{rest, ats}
-use Rattle.exec.specs.Instructions.{tagPasses, asks}
+use Rattle.instructions.specs.Instructions.{tagPasses, asks}
 use Rattle.exec.specs.Scans.{Sought, over, stopped, keep, seek, foundToo, foundIn, answerFrom, testsTaken, withinTests, live, tagScan, attributeScan, allPass}
 use Rattle.exec.specs.ScanLaws.{length-ats}
 use Rattle.exec.specs.declared.cursor.Cursor.{Cursor}

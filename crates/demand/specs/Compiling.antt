@@ -22,11 +22,11 @@ use Rattle.compiler.specs.Program.{nodeKey, words, row, rows}
 use Rattle.compiler.specs.KeyLaws.{key-skips}
 use Rattle.compiler.specs.StoreLaws.{instruction-word, same-length, layout-says, Recorded, spelt-recorded}
 use Rattle.exec.specs.Cursors as cursors
-use Rattle.exec.specs.Cursors.{rowWord, leftIn, hangs}
+use Rattle.instructions.specs.Instructions.{rowWord, keyFits, tagTestsHold, attributeTestsHold, tagTestsPass, tagPasses, attributePasses, asks}
+use Rattle.exec.specs.Cursors.{leftIn, hangs}
 use Rattle.exec.specs.CursorLaws.{hangs-whole}
 use Rattle.exec.specs.Instructions as instructions
-use Rattle.exec.specs.Instructions.{keyFits, tagTestsHold, attributeTestsHold, tagTestsPass, tagPasses, attributePasses, asks}
-use Rattle.exec.specs.FoundIds.{idsOfNode}
+use Rattle.instructions.specs.FoundIds.{idsOfNode}
 use Rattle.meaning.specs.Lists.{every, keep, full}
 use Rattle.meaning.specs.Document.{Link, child, descendant}
 use Rattle.meaning.specs.Trees.{Forest, end, tree, width, size, some-node}

@@ -15,7 +15,7 @@ use Rattle.stack.specs.Reads.{push-length, held-below, held-above, held-length,
 use Rattle.exec.specs.declared.cursor.Cursor.{Cursor}
 use Rattle.exec.specs.declared.cursor.Ranges.{Ranges}
 use Rattle.exec.specs.Cursors.{rangeAt, rides, later, rest, ats}
-use Rattle.exec.specs.FoundIds.{withIdsOf}
+use Rattle.instructions.specs.FoundIds.{withIdsOf}
 use Rattle.weighing.specs.Weighing.{madeMark}
 use Rattle.course.specs.Course.{liveRanges, heldCursor}
 use Rattle.machine.specs.Calls.{flagsOf}

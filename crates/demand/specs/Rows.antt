@@ -9,9 +9,9 @@ use Rattle.names.specs.Names.{nameKey}
 use Rattle.rules.specs.Attributes.{attributesOf}
 use Rattle.sheet.specs.Parser.{nodeCount, rootCount}
 use Rattle.cells.specs.Ids.{idsOf}
-use Rattle.exec.specs.Cursors.{rowWord, hangs}
-use Rattle.exec.specs.Instructions.{testsEnd, tagCount, attributeCount, attributeTestsHold, tagPasses, attributePasses, asks}
-use Rattle.exec.specs.FoundIds.{withIdsOf}
+use Rattle.instructions.specs.Instructions.{rowWord, testsEnd, tagCount, attributeCount, attributeTestsHold, tagPasses, attributePasses, asks}
+use Rattle.exec.specs.Cursors.{hangs}
+use Rattle.instructions.specs.FoundIds.{withIdsOf}
 use Rattle.meaning.specs.Lists.{sum}
 use Rattle.meaning.specs.Document.{Link, child, descendant}
 use Rattle.meaning.specs.Match.{Way}

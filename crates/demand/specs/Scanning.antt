@@ -15,7 +15,7 @@ use Rattle.exec.specs.declared.cursor.Cursor.{Cursor}
 use Rattle.exec.specs.declared.cursor.Ranges.{Ranges}
 use Rattle.exec.specs.Cursors.{cursorOf, firstCursor, rangeAt, leftIn, ride, inRange, rides, later, rest, ats}
 use Rattle.exec.specs.CursorLaws.{Own, own-first}
-use Rattle.exec.specs.Instructions.{keyFits, tagPasses, attributePasses, asks}
+use Rattle.instructions.specs.Instructions.{keyFits, tagPasses, attributePasses, asks}
 use Rattle.exec.specs.Scans as scans
 use Rattle.exec.specs.Scans.{Sought, over, stopped, foundToo, seek, testsTaken, tagScan, allPass}
 use Rattle.exec.specs.ScanLaws.{testsIn, length-ats, forget, seek-scan, tag-scan-all, attribute-scan-all}

@@ -6,7 +6,7 @@ use Rattle.cells.specs.Ids.{idsOf}
 use Rattle.rules.specs.Attributes.{attributesOf}
 use Rattle.sheet.specs.Records.{NodeRecord}
 use Rattle.sheet.specs.Meaning.{sheetTests}
-use Rattle.exec.specs.FoundIds.{withIds}
+use Rattle.instructions.specs.FoundIds.{withIds}
 use Rattle.meaning.specs.Lists.{keep, gather}
 use Rattle.meaning.specs.Trees.{Forest}
 use Rattle.meaning.specs.Tests.{Tests}

@@ -12,7 +12,7 @@ use lib.ListN.{length, getD, length-set}
 use Rattle.cells.specs.Ids.{hasId, idsFrom, idsOf, withId}
 use Rattle.cells.specs.IdLaws as ids
 use Rattle.cells.specs.IdLaws.{member-inside, ids-rise}
-use Rattle.exec.specs.FoundIds.{idsOfNode, withIds, withIdsOf, listed, with-ids-law, gathered-members}
+use Rattle.instructions.specs.FoundIds.{idsOfNode, withIds, withIdsOf, listed, with-ids-law, gathered-members}
 use Rattle.meaning.specs.Lists.{_∈_, here, there, Rising, keep, gather}
 use Rattle.meaning.specs.ListLaws.{keep-mem, mem-keep, gather-mem, mem-gather}
 

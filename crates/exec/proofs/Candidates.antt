@@ -14,7 +14,7 @@ use Rattle.exec.specs.declared.cursor.Ranges.{Ranges}
 use Rattle.exec.specs.declared.cursor.Jump.{Jump}
 use Rattle.exec.specs.declared.scan.Candidate.{Candidate}
 use Rattle.exec.specs.Cursors.{cursorOf, afterCursor, rangeAt, jumpOf, leftIn, ride, rides, later, rest}
-use Rattle.exec.specs.Instructions.{keyFits}
+use Rattle.instructions.specs.Instructions.{keyFits}
 use Rattle.exec.specs.Searching.{jumps, firstKeyed, affordable, fromKeyed, Reached}
 
 module _ (program nodes : List ℕ) (ranges : Ranges) where

@@ -1,5 +1,3 @@
 pub mod Candidates
-pub mod IdTurns
 pub mod ScanTurns
-pub mod TestTurns
 pub mod TestBudget

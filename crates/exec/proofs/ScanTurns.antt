@@ -12,7 +12,7 @@ use Rattle.exec.specs.declared.cursor.Cursor.{Cursor}
 use Rattle.exec.specs.declared.cursor.Ranges.{Ranges}
 use Rattle.exec.specs.declared.scan.Live.{Live}
 use Rattle.exec.specs.Cursors.{cursorOf, afterCursor, ats}
-use Rattle.exec.specs.Instructions.{keyFits, tagTestsPass, tagPasses, attributePasses, asks}
+use Rattle.instructions.specs.Instructions.{keyFits, tagTestsPass, tagPasses, attributePasses, asks}
 use Rattle.exec.specs.Scans.{keep, Sought, over, stopped, foundToo, seek, foundIn, answerFrom, live, tagScan, allPass, attributeScan}
 use Rattle.exec.specs.Searching.{fromKeyed, Within}
 

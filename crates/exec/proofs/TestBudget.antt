@@ -12,8 +12,8 @@ use Rattle.exec.specs.declared.cursor.Cursor.{Cursor}
 use Rattle.exec.specs.declared.cursor.Ranges.{Ranges}
 use Rattle.exec.specs.declared.scan.Candidate.{Candidate}
 use Rattle.exec.specs.declared.scan.Live.{Live}
-use Rattle.exec.specs.Cursors.{rowWord, afterCursor, rest}
-use Rattle.exec.specs.Instructions.{keyFits, testsEnd, tagCount, attributeCount}
+use Rattle.instructions.specs.Instructions.{rowWord, keyFits, testsEnd, tagCount, attributeCount}
+use Rattle.exec.specs.Cursors.{afterCursor, rest}
 use Rattle.exec.specs.Scans.{testsTaken, withinTests, live}
 use Rattle.exec.specs.Searching.{fromKeyed, Reached, Within}
 

@@ -10,7 +10,8 @@ use lib.ListN.{getD}
 use Rattle.cells.specs.Stretches.{cellsFrom}
 use Rattle.exec.specs.declared.cursor.Cursor.{Cursor}
 use Rattle.exec.specs.declared.cursor.Ranges.{Ranges}
-use Rattle.exec.specs.Cursors.{rowWord, firstCursor, rangeAt, leftIn, ride, inRange, rides, later, rest, ats, span, hangs}
+use Rattle.instructions.specs.Instructions.{rowWord}
+use Rattle.exec.specs.Cursors.{firstCursor, rangeAt, leftIn, ride, inRange, rides, later, rest, ats, span, hangs}
 
 -- ---- addresses
 

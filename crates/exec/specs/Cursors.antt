@@ -4,6 +4,7 @@ use mathlib.Core.List.{List, [], _∷_, _++_, map}
 use Prim.Native.Nat.{ℕ, zero, suc, _+_, _-_, _*_}
 use lib.Dec.{eqb, ltb, leb}
 use lib.ListN.{getD}
+use Rattle.instructions.specs.Instructions.{rowWord}
 use Rattle.exec.specs.declared.cursor.Cursor.{Cursor}
 use Rattle.exec.specs.declared.cursor.Ranges.{Ranges}
 use Rattle.exec.specs.declared.cursor.Jump.{Jump}
@@ -11,10 +12,6 @@ use Rattle.exec.specs.declared.cursor.Jump.{Jump}
 -- A cursor by its stage, the slot of the next node, and its range: where it stands and where the range stops.
 abbrev pub cursorOf : ℕ → ℕ → ℕ → ℕ → Cursor
 cursorOf stage slot at stop = record { stage = stage; slot = slot; at = at; stop = stop }
-
--- Word j of the row of instruction a: eight words a row.
-abbrev pub rowWord : List ℕ → ℕ → ℕ → ℕ
-rowWord program a j = getD program (a * 8 + j) 0
 
 -- The cursor at the first root.
 unfoldable pub firstCursor : ℕ → ℕ → Cursor

@@ -12,7 +12,7 @@ use Rattle.exec.specs.declared.cursor.Cursor.{Cursor}
 use Rattle.exec.specs.declared.cursor.Ranges.{Ranges}
 use Rattle.exec.specs.Cursors.{rest, ats}
 use Rattle.exec.specs.CursorLaws.{Own}
-use Rattle.exec.specs.Instructions.{attributeCount, attributeTestsHold, tagPasses, attributePasses, asks}
+use Rattle.instructions.specs.Instructions.{attributeCount, attributeTestsHold, tagPasses, attributePasses, asks}
 use Rattle.exec.specs.Scans.{keep, Sought, over, stopped, foundToo, seek, testsTaken, withinTests, live, tagScan, allPass, attributeScan}
 
 -- A cursor stands on each address.

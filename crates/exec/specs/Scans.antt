@@ -8,8 +8,8 @@ use Rattle.rules.specs.Attributes.{Attribute}
 use Rattle.exec.specs.declared.cursor.Cursor.{Cursor}
 use Rattle.exec.specs.declared.cursor.Ranges.{Ranges}
 use Rattle.exec.specs.declared.scan.Scanned.{Scanned}
-use Rattle.exec.specs.Cursors.{cursorOf, rowWord, rest, ats}
-use Rattle.exec.specs.Instructions.{keyFits, testsEnd, tagCount, attributeCount, tagPasses, attributePasses, asks}
+use Rattle.instructions.specs.Instructions.{rowWord, keyFits, testsEnd, tagCount, attributeCount, tagPasses, attributePasses, asks}
+use Rattle.exec.specs.Cursors.{cursorOf, rest, ats}
 
 -- The members that pass a test, in their order.
 unfoldable pub keep : (ℕ → Bool) → List ℕ → List ℕ

@@ -10,7 +10,7 @@ use Rattle.exec.specs.declared.cursor.Ranges.{Ranges}
 use Rattle.exec.specs.declared.scan.Candidate.{Candidate}
 use Rattle.exec.specs.declared.scan.Live.{Live}
 use Rattle.exec.specs.Cursors.{afterCursor, leftIn, rest}
-use Rattle.exec.specs.Instructions.{keyFits}
+use Rattle.instructions.specs.Instructions.{keyFits}
 use Rattle.exec.specs.Scans.{live}
 
 -- How many jumps are left at a cursor.

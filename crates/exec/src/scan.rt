@@ -2,12 +2,12 @@
 use crate::cursor::Cursor;
 use crate::cursor::Jump;
 use crate::cursor::Ranges;
-use crate::instruction::asks_attributes;
-use crate::instruction::attributes_pass;
-use crate::instruction::tag_tests_pass;
-use crate::instruction::tests_bytes;
 use cells::get32;
 use cells::put16;
+use instructions::instruction::asks_attributes;
+use instructions::instruction::attributes_pass;
+use instructions::instruction::tag_tests_pass;
+use instructions::instruction::tests_bytes;
 ghost use mathlib.Core.Path.{_≡_};
 ghost use Prim.Native.Nat.{_+_, _≤_, _<_, _^_, max};
 ghost use lib.ListN.{length};

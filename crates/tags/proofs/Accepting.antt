@@ -10,7 +10,7 @@ use Rattle.cells.specs.Stretches.{written, get-off}
 use Rattle.sheet.specs.Parser.{nodeCount}
 use Rattle.stack.specs.Stores.{Stores, stores, opens, parentsTop, ancestorsTop, foundFrom, known, nameCountedRows, countedRows, countedNames, counted, pushed, heldRows, releasedRows, released}
 use Rattle.stack.specs.Reads.{count-off, again-off, new-off}
-use Rattle.exec.specs.FoundIds.{withIdsOf}
+use Rattle.instructions.specs.FoundIds.{withIdsOf}
 use Rattle.exec.specs.Scans.{over, stopped}
 use Rattle.exec.specs.declared.cursor.Cursor.{Cursor}
 use Rattle.weighing.specs.Weighing.{typesCounted, pushRefusal}

@@ -6,7 +6,7 @@ use lib.Dec.{eqb}
 use Rattle.sheet.specs.Parser.{nodeCount}
 use Rattle.stack.specs.Stores.{Stores, counted, pushed, heldKind, held, released}
 use Rattle.exec.specs.Scans.{Sought, over, stopped}
-use Rattle.exec.specs.FoundIds.{withIdsOf}
+use Rattle.instructions.specs.FoundIds.{withIdsOf}
 use Rattle.exec.specs.declared.cursor.Cursor.{Cursor}
 use Rattle.weighing.specs.Weighing.{typesCounted, pairsFull, pushRefusal}
 use Rattle.course.specs.Course.{hasContent, begin, resumed}

@@ -5,7 +5,7 @@ use course::begin_scan;
 use course::has_content;
 use course::resume_scan;
 use exec::cursor::Cursor;
-use exec::ids::gather_ids;
+use instructions::ids::gather_ids;
 use items::push_item;
 use stack::counters::add_child;
 use stack::waiting::hold;

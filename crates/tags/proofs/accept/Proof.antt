@@ -6,7 +6,7 @@ use Rattle.tags.proofs.accept.Tie as tie
 use Rattle.tags.proofs.accept.Reads as reads
 use Rattle.tags.proofs.accept.Lts as lts
 use Rattle.cells.proofs.numbers.u16_at.Reads as u16-at-reads
-use Rattle.exec.proofs.ids.gather_ids.Reads as gather-ids-reads
+use Rattle.instructions.proofs.ids.gather_ids.Reads as gather-ids-reads
 use Rattle.items.proofs.push_item.Reads as push-item-reads
 use Rattle.stack.proofs.counters.add_child.Reads as add-child-reads
 use Rattle.weighing.proofs.counts_types.Reads as counts-types-reads

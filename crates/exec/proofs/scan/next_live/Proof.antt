@@ -6,7 +6,7 @@ use Rattle.exec.proofs.scan.next_live.Tie as tie
 use Rattle.exec.proofs.scan.next_live.Reads as reads
 use Rattle.exec.proofs.scan.next_live.Lts as lts
 use Rattle.exec.proofs.scan.next_candidate.Reads as next-candidate-reads
-use Rattle.exec.proofs.instruction.tests_bytes.Reads as tests-bytes-reads
+use Rattle.instructions.proofs.instruction.tests_bytes.Reads as tests-bytes-reads
 
 -- src/scan.rt:135:11
 next-candidate-requires : tie.Need-next-candidate-requires

@@ -7,7 +7,7 @@ use lib.ListN.{length, getD, drop, drop-of-length-le}
 use lib.Seq.{drop-cons}
 use Rattle.cells.specs.Numbers.{part}
 use Rattle.cells.specs.Ids.{withId}
-use Rattle.exec.specs.FoundIds.{idsOfNode, withIds, withIdsOf}
+use Rattle.instructions.specs.FoundIds.{idsOfNode, withIds, withIdsOf}
 
 module _ (words ids : List ℕ) (i : ℕ) where
   pub ids-none : length ids ≤ i → withIds words (drop i ids) ≡ words

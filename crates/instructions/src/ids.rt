@@ -5,7 +5,7 @@ use cells::at32;
 use cells::ids::add_id;
 use cells::part_of;
 ghost use mathlib.Core.Path.{_≡_};
-ghost use Rattle.exec.specs.FoundIds.{withIds, withIdsOf};
+ghost use Rattle.instructions.specs.FoundIds.{withIds, withIdsOf};
 
 // The set with the listed ids.
 fn add_ids(listed: &[u8], ids: &mut [u64])

@@ -2,13 +2,13 @@ use mathlib.Core.Path.{_≡_, refl, sym, _∙_}
 use Prim.Native.Nat.{_+_, _-_, _*_, _≤_}
 use native.Mathlib.Omega.{arith}
 use borrow.Author.Tests.{not-true, not-false}
-use Rattle.exec.specs.Instructions.{tagTestsHold}
-use Rattle.exec.proofs.TestTurns.{tags-none, tags-fail, tags-more}
+use Rattle.instructions.specs.Instructions.{tagTestsHold}
+use Rattle.instructions.proofs.TestTurns.{tags-none, tags-fail, tags-more}
 use borrow.Author.Needs.{needs}
-use Rattle.exec.proofs.instruction.tag_tests.Statement.{statement}
-use Rattle.exec.proofs.instruction.tag_tests.Tie as tie
-use Rattle.exec.proofs.instruction.tag_tests.Reads as reads
-use Rattle.exec.proofs.instruction.tag_tests.Lts as lts
+use Rattle.instructions.proofs.instruction.tag_tests.Statement.{statement}
+use Rattle.instructions.proofs.instruction.tag_tests.Tie as tie
+use Rattle.instructions.proofs.instruction.tag_tests.Reads as reads
+use Rattle.instructions.proofs.instruction.tag_tests.Lts as lts
 use Rattle.cells.proofs.numbers.u16_at.Reads as u16-at-reads
 use Rattle.cells.proofs.part_of.Reads as part-of-reads
 use Rattle.node_tests.proofs.tag_test.Reads as tag-test-reads

@@ -1,9 +1,9 @@
-use Rattle.exec.specs.Instructions.{asks}
+use Rattle.instructions.specs.Instructions.{asks}
 use borrow.Author.Needs.{needs}
-use Rattle.exec.proofs.instruction.asks_attributes.Statement.{statement}
-use Rattle.exec.proofs.instruction.asks_attributes.Tie as tie
-use Rattle.exec.proofs.instruction.asks_attributes.Reads as reads
-use Rattle.exec.proofs.instruction.asks_attributes.Lts as lts
+use Rattle.instructions.proofs.instruction.asks_attributes.Statement.{statement}
+use Rattle.instructions.proofs.instruction.asks_attributes.Tie as tie
+use Rattle.instructions.proofs.instruction.asks_attributes.Reads as reads
+use Rattle.instructions.proofs.instruction.asks_attributes.Lts as lts
 use Rattle.cells.proofs.at32.Reads as at32-reads
 
 -- src/instruction.rt:85:32

@@ -1,11 +1,11 @@
-use Rattle.exec.proofs.TestTurns.{tag-row}
+use Rattle.instructions.proofs.TestTurns.{tag-row}
 use borrow.Author.Needs.{needs}
-use Rattle.exec.proofs.instruction.tag_tests_pass.Statement.{statement}
-use Rattle.exec.proofs.instruction.tag_tests_pass.Tie as tie
-use Rattle.exec.proofs.instruction.tag_tests_pass.Reads as reads
-use Rattle.exec.proofs.instruction.tag_tests_pass.Lts as lts
+use Rattle.instructions.proofs.instruction.tag_tests_pass.Statement.{statement}
+use Rattle.instructions.proofs.instruction.tag_tests_pass.Tie as tie
+use Rattle.instructions.proofs.instruction.tag_tests_pass.Reads as reads
+use Rattle.instructions.proofs.instruction.tag_tests_pass.Lts as lts
 use Rattle.cells.proofs.at32.Reads as at32-reads
-use Rattle.exec.proofs.instruction.tag_tests.Reads as tag-tests-reads
+use Rattle.instructions.proofs.instruction.tag_tests.Reads as tag-tests-reads
 
 -- src/instruction.rt:66:15
 mul-row : tie.Need-mul-row

@@ -2,18 +2,18 @@ use mathlib.Core.Path.{_≡_, refl, sym, _∙_}
 use Prim.Native.Nat.{_-_, _≤_}
 use native.Mathlib.Omega.{arith}
 use lib.ListN.{length, drop}
-use Rattle.exec.specs.FoundIds.{withIdsOf}
-use Rattle.exec.proofs.IdTurns.{found-none, found-more}
+use Rattle.instructions.specs.FoundIds.{withIdsOf}
+use Rattle.instructions.proofs.IdTurns.{found-none, found-more}
 use borrow.Author.Needs.{needs}
-use Rattle.exec.proofs.ids.gather_ids.Statement.{statement}
-use Rattle.exec.proofs.ids.gather_ids.Tie as tie
-use Rattle.exec.proofs.ids.gather_ids.Reads as reads
-use Rattle.exec.proofs.ids.gather_ids.Lts as lts
+use Rattle.instructions.proofs.ids.gather_ids.Statement.{statement}
+use Rattle.instructions.proofs.ids.gather_ids.Tie as tie
+use Rattle.instructions.proofs.ids.gather_ids.Reads as reads
+use Rattle.instructions.proofs.ids.gather_ids.Lts as lts
 use Rattle.cells.proofs.at16.Reads as at16-reads
 use Rattle.cells.proofs.at32.Reads as at32-reads
 use Rattle.cells.proofs.at8.Reads as at8-reads
 use Rattle.cells.proofs.part_of.Reads as part-of-reads
-use Rattle.exec.proofs.ids.add_ids.Reads as add-ids-reads
+use Rattle.instructions.proofs.ids.add_ids.Reads as add-ids-reads
 
 abbrev Inv-loop : tie.InvT-loop
 Inv-loop sheet program found ids₀ i₀ ids i = (length ids ≡ length ids₀) × ((i ≤ length found) × (withIdsOf sheet program ids₀ found ≡ withIdsOf sheet program ids (drop i found)))

@@ -3,13 +3,13 @@ use Prim.Native.Nat.{_+_, _-_, _*_, _≤_}
 use native.Mathlib.Omega.{arith}
 use borrow.Author.Tests.{not-true, not-false}
 use Rattle.rules.specs.Attributes.{attributesOf}
-use Rattle.exec.specs.Instructions.{attributeTestsHold}
-use Rattle.exec.proofs.TestTurns.{attributes-none, attributes-fail, attributes-more}
+use Rattle.instructions.specs.Instructions.{attributeTestsHold}
+use Rattle.instructions.proofs.TestTurns.{attributes-none, attributes-fail, attributes-more}
 use borrow.Author.Needs.{needs}
-use Rattle.exec.proofs.instruction.attribute_tests.Statement.{statement}
-use Rattle.exec.proofs.instruction.attribute_tests.Tie as tie
-use Rattle.exec.proofs.instruction.attribute_tests.Reads as reads
-use Rattle.exec.proofs.instruction.attribute_tests.Lts as lts
+use Rattle.instructions.proofs.instruction.attribute_tests.Statement.{statement}
+use Rattle.instructions.proofs.instruction.attribute_tests.Tie as tie
+use Rattle.instructions.proofs.instruction.attribute_tests.Reads as reads
+use Rattle.instructions.proofs.instruction.attribute_tests.Lts as lts
 use Rattle.cells.proofs.numbers.u16_at.Reads as u16-at-reads
 use Rattle.cells.proofs.part_of.Reads as part-of-reads
 use Rattle.node_tests.proofs.attribute_test.Reads as attribute-test-reads

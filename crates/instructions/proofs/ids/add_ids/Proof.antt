@@ -2,13 +2,13 @@ use mathlib.Core.Path.{_≡_, refl, sym, _∙_}
 use Prim.Native.Nat.{_-_, _≤_}
 use native.Mathlib.Omega.{arith}
 use lib.ListN.{length, drop}
-use Rattle.exec.specs.FoundIds.{withIds}
-use Rattle.exec.proofs.IdTurns.{ids-none, ids-more}
+use Rattle.instructions.specs.FoundIds.{withIds}
+use Rattle.instructions.proofs.IdTurns.{ids-none, ids-more}
 use borrow.Author.Needs.{needs}
-use Rattle.exec.proofs.ids.add_ids.Statement.{statement}
-use Rattle.exec.proofs.ids.add_ids.Tie as tie
-use Rattle.exec.proofs.ids.add_ids.Reads as reads
-use Rattle.exec.proofs.ids.add_ids.Lts as lts
+use Rattle.instructions.proofs.ids.add_ids.Statement.{statement}
+use Rattle.instructions.proofs.ids.add_ids.Tie as tie
+use Rattle.instructions.proofs.ids.add_ids.Reads as reads
+use Rattle.instructions.proofs.ids.add_ids.Lts as lts
 use Rattle.cells.proofs.at8.Reads as at8-reads
 use Rattle.cells.proofs.ids.add_id.Reads as add-id-reads
 

@@ -1,12 +1,12 @@
-use Rattle.exec.proofs.TestTurns.{attribute-row}
+use Rattle.instructions.proofs.TestTurns.{attribute-row}
 use borrow.Author.Needs.{needs}
-use Rattle.exec.proofs.instruction.attributes_pass.Statement.{statement}
-use Rattle.exec.proofs.instruction.attributes_pass.Tie as tie
-use Rattle.exec.proofs.instruction.attributes_pass.Reads as reads
-use Rattle.exec.proofs.instruction.attributes_pass.Lts as lts
+use Rattle.instructions.proofs.instruction.attributes_pass.Statement.{statement}
+use Rattle.instructions.proofs.instruction.attributes_pass.Tie as tie
+use Rattle.instructions.proofs.instruction.attributes_pass.Reads as reads
+use Rattle.instructions.proofs.instruction.attributes_pass.Lts as lts
 use Rattle.cells.proofs.at32.Reads as at32-reads
-use Rattle.exec.proofs.instruction.attribute_tests.Reads as attribute-tests-reads
-use Rattle.exec.proofs.instruction.tests_end.Reads as tests-end-reads
+use Rattle.instructions.proofs.instruction.attribute_tests.Reads as attribute-tests-reads
+use Rattle.instructions.proofs.instruction.tests_end.Reads as tests-end-reads
 
 -- src/instruction.rt:75:15
 mul-row : tie.Need-mul-row

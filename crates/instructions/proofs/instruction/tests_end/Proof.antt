@@ -1,13 +1,13 @@
 use mathlib.Core.Path.{_≡_, refl, sym, _∙_}
 use Prim.Native.Nat.{_+_, _-_, _*_, _≤_}
 use native.Mathlib.Omega.{arith}
-use Rattle.exec.specs.Instructions.{testsEnd}
-use Rattle.exec.proofs.TestTurns.{end-none, end-more}
+use Rattle.instructions.specs.Instructions.{testsEnd}
+use Rattle.instructions.proofs.TestTurns.{end-none, end-more}
 use borrow.Author.Needs.{needs}
-use Rattle.exec.proofs.instruction.tests_end.Statement.{statement}
-use Rattle.exec.proofs.instruction.tests_end.Tie as tie
-use Rattle.exec.proofs.instruction.tests_end.Reads as reads
-use Rattle.exec.proofs.instruction.tests_end.Lts as lts
+use Rattle.instructions.proofs.instruction.tests_end.Statement.{statement}
+use Rattle.instructions.proofs.instruction.tests_end.Tie as tie
+use Rattle.instructions.proofs.instruction.tests_end.Reads as reads
+use Rattle.instructions.proofs.instruction.tests_end.Lts as lts
 use Rattle.cells.proofs.numbers.u16_at.Reads as u16-at-reads
 
 abbrev Inv-loop : tie.InvT-loop

@@ -8,8 +8,7 @@ use lib.ListN.{getD}
 use Rattle.cells.specs.Numbers.{part, be16}
 use Rattle.rules.specs.Attributes.{Attribute}
 use Rattle.node_tests.specs.Tests.{tagTestHolds, readTagTest, attributeTestHolds, readAttributeTest}
-use Rattle.exec.specs.Cursors.{rowWord}
-use Rattle.exec.specs.Instructions.{testsEnd, tagCount, attributeCount, tagTestsHold, attributeTestsHold, tagTestsPass, attributePasses}
+use Rattle.instructions.specs.Instructions.{rowWord, testsEnd, tagCount, attributeCount, tagTestsHold, attributeTestsHold, tagTestsPass, attributePasses}
 
 module _ (sheet : List ℕ) (n at : ℕ) where
   pub end-none : n ≤ 0 → testsEnd sheet n at ≡ at

@@ -7,8 +7,7 @@ use node_tests::tag_test;
 ghost use mathlib.Core.Path.{_≡_};
 ghost use Prim.Native.Nat.{_+_, _-_, _<_, _≤_, _^_};
 ghost use Rattle.rules.specs.Attributes.{attributesOf};
-ghost use Rattle.exec.specs.Cursors.{rowWord};
-ghost use Rattle.exec.specs.Instructions.{tagTestsHold, attributeTestsHold, testsEnd, tagCount, attributeCount, tagTestsPass, attributePasses, asks};
+ghost use Rattle.instructions.specs.Instructions.{rowWord, tagTestsHold, attributeTestsHold, testsEnd, tagCount, attributeCount, tagTestsPass, attributePasses, asks};
 
 // So many tag tests from a place of the sheet on.
 fn tag_tests(sheet: &[u8], name: &[u8], child: u32, of_type: u32, count: usize, from: usize) -> bool

@@ -1,11 +1,11 @@
-use Rattle.exec.proofs.TestTurns.{bytes-row}
+use Rattle.instructions.proofs.TestTurns.{bytes-row}
 use borrow.Author.Needs.{needs}
-use Rattle.exec.proofs.instruction.tests_bytes.Statement.{statement}
-use Rattle.exec.proofs.instruction.tests_bytes.Tie as tie
-use Rattle.exec.proofs.instruction.tests_bytes.Reads as reads
-use Rattle.exec.proofs.instruction.tests_bytes.Lts as lts
+use Rattle.instructions.proofs.instruction.tests_bytes.Statement.{statement}
+use Rattle.instructions.proofs.instruction.tests_bytes.Tie as tie
+use Rattle.instructions.proofs.instruction.tests_bytes.Reads as reads
+use Rattle.instructions.proofs.instruction.tests_bytes.Lts as lts
 use Rattle.cells.proofs.at32.Reads as at32-reads
-use Rattle.exec.proofs.instruction.tests_end.Reads as tests-end-reads
+use Rattle.instructions.proofs.instruction.tests_end.Reads as tests-end-reads
 
 -- src/instruction.rt:74:15
 mul-row : tie.Need-mul-row

@@ -1,0 +1,2 @@
+mod TestTurns
+mod IdTurns
