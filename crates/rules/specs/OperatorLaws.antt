@@ -32,7 +32,7 @@ unfolding emptyBytes
 byte-law [] = (λ t e. t, λ n. n refl)
 byte-law (x ∷ xs) = (λ t e. let z = ap length e in omega arith, λ n. tt)
 
--- E1, for what X says of a value that is not empty: it has a byte where the operand has one, and X holds for the empty operand
+-- E1, with X for what the operator says of the value: it tells that the value has a byte where the operand has one, and always holds for the empty operand
 by-operand : {X : Type 0} (v o : List ℕ) → (X → (o ≡ [] → ⊥) → v ≡ [] → ⊥) → (o ≡ [] → X) → ((v ≡ [] → ⊥) × X) ↔ (((o ≡ [] → ⊥) × X) ⊎ ((o ≡ []) × (v ≡ [] → ⊥)))
 by-operand v [] longer always = (λ (n, x). inr (refl, n), ⊎-elim (λ (m, x). absurd (m refl)) (λ (e, n). (n, always e)))
 by-operand v (b ∷ o) longer always = (λ (n, x). inl (λ e. let z = ap length e in omega arith, x), ⊎-elim (λ (m, x). (longer x m, x)) (λ (e, n). (n, always e)))
@@ -62,15 +62,13 @@ module _ (f : Bool) (v o : List ℕ) where
       ∙ ap (take (length o)) e
       ∙ take-at (fold f o) rest (length o) (length-map o (foldByte f)))
 
-  begins-law : T (beginsWith f v o) ↔ ((rest : List ℕ) × (fold f v ≡ fold f o ++ rest))
-  begins-law = (begins-found, λ (rest, e). begins-holds rest e)
-
   -- E1: the empty operand, which W3C's prefix never matches, matches every value that is not empty.
   pub prefix-law : T (prefixHolds f v o) ↔ (Prefix f v o ⊎ ((o ≡ []) × (v ≡ [] → ⊥)))
   unfolding prefixHolds Prefix
   prefix-law =
       Iff·trans (and-law (not (emptyBytes v)) (beginsWith f v o))
-      (Iff·trans (Iff·and (byte-law v) begins-law) (by-operand v o (λ (rest, e). longer f v o [] rest e) (λ e. (fold f v, rw e))))
+      (Iff·trans (Iff·and (byte-law v) (begins-found, λ (rest, e). begins-holds rest e))
+      (by-operand v o (λ (rest, e). longer f v o [] rest e) (λ e. (fold f v, rw e))))
 
   ends-found : T (sameBytes f f (drop (length v - length o) v) o) → (front : List ℕ) × (fold f v ≡ front ++ fold f o)
   ends-found t =

@@ -7,6 +7,10 @@ use borrow.Author.Needs.{needs}
 use Rattle.cells.proofs.numbers.u16_at.Statement.{statement}
 use Rattle.cells.proofs.numbers.u16_at.Tie as tie
 
+returns-2 : tie.Need-returns-2
+unfolding be16
+returns-2 c = (rw (c .before .at8 .ensures .0, c .at82 .ensures .0), omega arith)
+
 pub u16-at-spec : {M : Type 1} → statement M
 u16-at-spec =
     tie.close
@@ -17,4 +21,4 @@ u16-at-spec =
     (λ c. search needs)
     (λ c κs. search needs)
     (λ c. search needs)
-    (λ c. (unfold be16 in rw (c .before .at8 .ensures .0, c .at82 .ensures .0), omega arith)))
+    returns-2)

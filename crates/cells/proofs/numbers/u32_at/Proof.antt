@@ -7,6 +7,10 @@ use borrow.Author.Needs.{needs}
 use Rattle.cells.proofs.numbers.u32_at.Statement.{statement}
 use Rattle.cells.proofs.numbers.u32_at.Tie as tie
 
+returns-2 : tie.Need-returns-2
+unfolding be32
+returns-2 c = (rw (c .before .u16-at .ensures .0, c .u16-at2 .ensures .0), omega arith)
+
 pub u32-at-spec : {M : Type 1} → statement M
 u32-at-spec =
     tie.close
@@ -17,4 +21,4 @@ u32-at-spec =
     (λ c. search needs)
     (λ c κs. search needs)
     (λ c. search needs)
-    (λ c. (unfold be32 in rw (c .before .u16-at .ensures .0, c .u16-at2 .ensures .0), omega arith)))
+    returns-2)
