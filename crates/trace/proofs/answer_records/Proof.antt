@@ -65,7 +65,6 @@ enum-known-cut c = search needs
 enum-told : tie.Need-enum-told Inv-loop μ-loop
 enum-told c = search needs
 
--- src/lib.rt:1:1
 cut-short-requires : tie.Need-cut-short-requires Inv-loop μ-loop
 cut-short-requires c κs = search needs
 
@@ -89,7 +88,6 @@ same-length-9 c = search needs
 same-length-10 : tie.Need-same-length-10 Inv-loop μ-loop
 same-length-10 c = search needs
 
--- src/lib.rt:1:1
 returns-2 : tie.Need-returns-2 Inv-loop μ-loop
 returns-2 c = (left-cut _ _ _ _ _ _ _ _ _ _ _ _ (c .before .before .before .before .before .before .before .before .before .loop .inv .7) (omega arith) (omega arith) _ (c .before .before .before .before .before .before .record-end .ensures) (c .before .before .before .before .enum-told .given .1) _ _ (c .before .before .cut-short .ensures .0 .0) (c .before .before .cut-short .ensures .0 .1), search needs)
 
