@@ -49,40 +49,40 @@ unfolding saying spoken
 said-line o rep s′ out out′ at r e w = rw (← e, w .0, w .1)
 
 pub said-pop : (sheet program : List ℕ) (s : Stores) (name popped : List ℕ) (a : Popped) (rows′ popped′ out out′ : List ℕ) (at r : ℕ)
-    → ended a rows′ popped′ ≡ endCall sheet program s name popped → Wrote out at (poppedLine a) r out′
-    → answered (Said.Line r) out′ (stores rows′ (s .names) (s .ids) (s .nodes)) ≡ saying (endTurn sheet program s name popped) out at
+    → popped ≡ poppedRoom → ended a rows′ popped′ ≡ endCall sheet program s name popped → Wrote out at (poppedLine a) r out′
+    → answered (Said.Line r) out′ (stores rows′ (s .names) (s .ids) (s .nodes)) ≡ saying (endTurn sheet program s name) out at
 unfolding saying endTurn
-said-pop sheet program s name popped a rows′ popped′ out out′ at r e w = rw (← e, w .0, w .1)
+said-pop sheet program s name popped a rows′ popped′ out out′ at r p e w = rw (← p, ← e, w .0, w .1)
 
 -- ---- by what the record says
 
-module _ (sheet program : List ℕ) (s : Stores) (body outlines popped out : List ℕ) (at : ℕ) (rd : Record) (x : Answered) where
+module _ (sheet program : List ℕ) (s : Stores) (body outlines out : List ℕ) (at : ℕ) (rd : Record) (x : Answered) where
   pub by-start : (namespace : ℕ) → rd ≡ Record.Start namespace → (name : List ℕ) → name ≡ part body 2 (length body)
-      → x ≡ saying (startTurn sheet program s namespace name) out at → x ≡ saying (turnBy sheet program s body rd outlines popped) out at
+      → x ≡ saying (startTurn sheet program s namespace name) out at → x ≡ saying (turnBy sheet program s body rd outlines) out at
   unfolding turnBy
   by-start namespace e name n f = rw (e, ← n) f
 
   pub by-attributes : (closing : Bool) (n : ℕ) → rd ≡ Record.Attributes closing n
-      → x ≡ saying (attributesTurn sheet program s closing body (part outlines 0 n)) out at → x ≡ saying (turnBy sheet program s body rd outlines popped) out at
+      → x ≡ saying (attributesTurn sheet program s closing body (part outlines 0 n)) out at → x ≡ saying (turnBy sheet program s body rd outlines) out at
   unfolding turnBy
   by-attributes closing n e f = rw e f
 
   pub by-end : rd ≡ Record.End → (name : List ℕ) → name ≡ part body 1 (length body)
-      → x ≡ saying (endTurn sheet program s name popped) out at → x ≡ saying (turnBy sheet program s body rd outlines popped) out at
+      → x ≡ saying (endTurn sheet program s name) out at → x ≡ saying (turnBy sheet program s body rd outlines) out at
   unfolding turnBy
   by-end e name n f = rw (e, ← n) f
 
-pub by-fault : (sheet program : List ℕ) (s : Stores) (body outlines popped out : List ℕ) (at : ℕ) (rd : Record) → rd ≡ Record.Faulty → answered Said.Faulty out s ≡ saying (turnBy sheet program s body rd outlines popped) out at
+pub by-fault : (sheet program : List ℕ) (s : Stores) (body outlines out : List ℕ) (at : ℕ) (rd : Record) → rd ≡ Record.Faulty → answered Said.Faulty out s ≡ saying (turnBy sheet program s body rd outlines) out at
 unfolding turnBy saying
-by-fault sheet program s body outlines popped out at rd e = rw e
+by-fault sheet program s body outlines out at rd e = rw e
 
 pub bound : (rd : Record) (closing : Bool) (n : ℕ) → rd ≡ Record.Attributes closing n → Fits rd → n ≤ 1020
 bound rd closing n e f = subst Fits e f
 
 -- ---- the whole record
 
-pub whole-record : (sheet program : List ℕ) (s : Stores) (body room popped o out : List ℕ) (at : ℕ) (rd : Record) (x : Answered)
-    → room ≡ outlineRoom → popped ≡ poppedRoom → read rd o ≡ recordOf body room
-    → x ≡ saying (turnBy sheet program s body rd o popped) out at → x ≡ saying (turnOf sheet program s body) out at
+pub whole-record : (sheet program : List ℕ) (s : Stores) (body room o out : List ℕ) (at : ℕ) (rd : Record) (x : Answered)
+    → room ≡ outlineRoom → read rd o ≡ recordOf body room
+    → x ≡ saying (turnBy sheet program s body rd o) out at → x ≡ saying (turnOf sheet program s body) out at
 unfolding turnOf
-whole-record sheet program s body room popped o out at rd x e f g h = h ∙ (rw (← e, ← f, ← g))
+whole-record sheet program s body room o out at rd x e g h = h ∙ (rw (← e, ← g))

@@ -52,20 +52,20 @@ module _ (sheet program : List ℕ) (s : Stores) where
   abbrev pub attributesTurn : (closing : Bool) → (body outlines : List ℕ) → Turn
   attributesTurn closing body outlines = spoken (attributesCall sheet program s closing body outlines)
 
-  unfoldable pub endTurn : (name popped : List ℕ) → Turn
-  endTurn name popped =
-      let e = endCall sheet program s name popped in
+  unfoldable pub endTurn : (name : List ℕ) → Turn
+  endTurn name =
+      let e = endCall sheet program s name poppedRoom in
       Turn.line (poppedLine (e .answer)) (stores (e .rows) (s .names) (s .ids) (s .nodes))
 
   -- By what the record says: a start tag's name stands from byte 2 on, an end tag's from byte 1 on; the body is the input that outlines speak of.
-  unfoldable pub turnBy : (body : List ℕ) → Record → (outlines popped : List ℕ) → Turn
-  turnBy body (Record.Start namespace) outlines popped = startTurn namespace (part body 2 (length body))
-  turnBy body (Record.Attributes closing n) outlines popped = attributesTurn closing body (part outlines 0 n)
-  turnBy body Record.End outlines popped = endTurn (part body 1 (length body)) popped
-  turnBy body Record.Faulty outlines popped = Turn.faulty s
+  unfoldable pub turnBy : (body : List ℕ) → Record → (outlines : List ℕ) → Turn
+  turnBy body (Record.Start namespace) outlines = startTurn namespace (part body 2 (length body))
+  turnBy body (Record.Attributes closing n) outlines = attributesTurn closing body (part outlines 0 n)
+  turnBy body Record.End outlines = endTurn (part body 1 (length body))
+  turnBy body Record.Faulty outlines = Turn.faulty s
 
   unfoldable pub turnOf : (body : List ℕ) → Turn
-  turnOf body = turnBy body (recordOf body outlineRoom .said) (recordOf body outlineRoom .outlines) poppedRoom
+  turnOf body = turnBy body (recordOf body outlineRoom .said) (recordOf body outlineRoom .outlines)
 
 -- What the code says of a record: where its line ends, or that it is faulty; the buffer and the stores after it.
 pub record Answered : Type 0 where

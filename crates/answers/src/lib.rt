@@ -99,7 +99,13 @@ pub fn answer_attributes(
     put_reply(out, at, reply)
 }
 
-// The ids of the popped are not printed: `popped` is room for them.
+fn popped_room() -> [u64; 512]
+    ensures { λ r. ⌜ r ≡ poppedRoom ⌝ }
+{
+    [0; 512]
+}
+
+// The ids of the popped are not printed.
 fn answer_end(
     sheet: &[u8],
     program: &[u32],
@@ -108,15 +114,15 @@ fn answer_end(
     ids: &[u64],
     nodes: &[u16],
     name: &[u8],
-    popped: &mut [u64],
     out: &mut [u8],
     at: usize,
 ) -> usize
     requires { ⌜ at ≤ 4294967296 ⌝ }
-    ensures { λ r. ⌜ answered (Said.Line r) (now (out .exit)) (stores (now (rows .exit)) (now (names .entry)) (now (ids .entry)) (now (nodes .entry))) ≡ saying (endTurn (now (sheet .entry)) (now (program .entry)) (stores (now (rows .entry)) (now (names .entry)) (now (ids .entry)) (now (nodes .entry))) (now (name .entry)) (now (popped .entry))) (now (out .entry)) at ⌝ }
+    ensures { λ r. ⌜ answered (Said.Line r) (now (out .exit)) (stores (now (rows .exit)) (now (names .entry)) (now (ids .entry)) (now (nodes .entry))) ≡ saying (endTurn (now (sheet .entry)) (now (program .entry)) (stores (now (rows .entry)) (now (names .entry)) (now (ids .entry)) (now (nodes .entry))) (now (name .entry))) (now (out .entry)) at ⌝ }
     ensures { λ r. ⌜ r ≤ at + 4096 ⌝ }
 {
-    let answer = machine::end(sheet, program, rows, names, ids, nodes, name, popped);
+    let mut popped = popped_room();
+    let answer = machine::end(sheet, program, rows, names, ids, nodes, name, &mut popped);
     put_popped(out, at, answer)
 }
 
@@ -131,12 +137,11 @@ fn answer_record(
     body: &[u8],
     read: Record,
     outlines: &[u32],
-    popped: &mut [u64],
     out: &mut [u8],
     at: usize,
 ) -> Said
     requires { ⌜ (at ≤ 4294967296) × Fits read × (1020 ≤ length (now outlines)) ⌝ }
-    ensures { λ r. ⌜ answered r (now (out .exit)) (stores (now (rows .exit)) (now (names .exit)) (now (ids .exit)) (now (nodes .exit))) ≡ saying (turnBy (now (sheet .entry)) (now (program .entry)) (stores (now (rows .entry)) (now (names .entry)) (now (ids .entry)) (now (nodes .entry))) (now (body .entry)) read (now (outlines .entry)) (now (popped .entry))) (now (out .entry)) at ⌝ }
+    ensures { λ r. ⌜ answered r (now (out .exit)) (stores (now (rows .exit)) (now (names .exit)) (now (ids .exit)) (now (nodes .exit))) ≡ saying (turnBy (now (sheet .entry)) (now (program .entry)) (stores (now (rows .entry)) (now (names .entry)) (now (ids .entry)) (now (nodes .entry))) (now (body .entry)) read (now (outlines .entry))) (now (out .entry)) at ⌝ }
     ensures { λ r. ⌜ Within (at + 4096) r ⌝ }
 {
     match read {
@@ -173,18 +178,7 @@ fn answer_record(
         }
         Record::End => {
             let name = part_of(body, 1, body.len());
-            Said::Line(answer_end(
-                sheet,
-                program,
-                rows,
-                names,
-                ids,
-                nodes,
-                name,
-                popped,
-                out,
-                at,
-            ))
+            Said::Line(answer_end(sheet, program, rows, names, ids, nodes, name, out, at))
         }
         Record::Faulty => Said::Faulty,
     }
@@ -194,12 +188,6 @@ fn outline_room() -> [u32; 1020]
     ensures { λ r. ⌜ r ≡ outlineRoom ⌝ }
 {
     [0; 1020]
-}
-
-fn popped_room() -> [u64; 512]
-    ensures { λ r. ⌜ r ≡ poppedRoom ⌝ }
-{
-    [0; 512]
 }
 
 // Answers the record of this body with a line, if it is of its form.
@@ -219,7 +207,6 @@ pub fn answer(
     ensures { λ r. ⌜ Within (at + 4096) r ⌝ }
 {
     let mut outlines = outline_room();
-    let mut popped = popped_room();
     let record = record_of(body, &mut outlines);
     answer_record(
         sheet,
@@ -231,7 +218,6 @@ pub fn answer(
         body,
         record,
         &outlines,
-        &mut popped,
         out,
         at,
     )

@@ -9,21 +9,26 @@ use borrow.Author.Tests.{lt-ltb, le-ltb, ltb-false, lt-leb, le-leb, eq-eqb, ne-e
 use lib.Dec.{ltb}
 use lib.ListN.{length, getD}
 use Rattle.cells.specs.Numbers.{part, be16}
-use Rattle.lines.specs.Lines.{Wrote, refusedLine, sheetLine, badTraceLine}
-use Rattle.machine.specs.Calls.{fresh, freshCall}
-use Rattle.machine.specs.declared.Made.{Made}
+use Rattle.lines.specs.Lines.{badTraceLine}
 use Rattle.records.specs.Records.{recordEnd}
-use Rattle.records.specs.Sheets.{sheetEnd}
 use Rattle.records.specs.declared.Cut.{Cut}
-use Rattle.stack.specs.Stores.{Stores, stores}
+use Rattle.stack.specs.Stores.{Stores}
 use Rattle.answers.specs.Answers.{Answered, answered, Within, turnOf, saying}
-use Rattle.trace.specs.Run.{fed, Ran, ran, badFed, badOut, badRun, onCut, onSaid, answersFrom, feedOf, wholeRun, wholeBy, wholeOf}
+use Rattle.trace.specs.Run.{fed, Ran, ran, badFed, badOut, badRun, cutFed, cutOut, onCut, onSaid, answersFrom, beginOf, feedBy, feedOf, Inside}
 use Rattle.answers.specs.declared.Said.{Said}
+use Rattle.trace.specs.declared.Begin.{Begin}
 use Rattle.trace.specs.declared.Fed.{Fed}
 use Rattle.trace.specs.declared.Halt.{Halt}
 
 pub bad-fed : (place at wrote w : ℕ) → w ≡ wrote + length (badTraceLine (place + at)) → fed at w Halt.Over ≡ badFed place at wrote
 bad-fed place at wrote w e = ap (λ (k : ℕ). fed at k Halt.Over) e
+
+module _ (last : Bool) (place at wrote : ℕ) where
+  pub cut-last : last ≡ true → (r : Fed) (out o : List ℕ) → r ≡ badFed place at wrote → o ≡ badOut place at wrote out → (r ≡ cutFed last place at wrote) × (o ≡ cutOut last place at wrote out)
+  cut-last e r out o a b = rw e (a, b)
+
+  pub cut-more : last ≡ false → (out : List ℕ) → (fed at wrote Halt.Hungry ≡ cutFed last place at wrote) × (out ≡ cutOut last place at wrote out)
+  cut-more e out = rw e (refl, refl)
 
 -- a whole record lies in its block
 pub end-bounds : (block : List ℕ) (at : ℕ) (cut : Cut) (end : ℕ) → cut ≡ recordEnd block at → cut ≡ Cut.Whole end → (at + 2 ≤ end) × (end ≤ length block)
@@ -52,16 +57,10 @@ module _ (sheet program block : List ℕ) (last : Bool) (place : ℕ) where
   run-full (suc n) at wrote out s p h g = simp (lt-leb _ _ h, lt-ltb _ _ g)
 
   pub run-cut : (n at wrote : ℕ) (out : List ℕ) (s : Stores) → 0 < n → at < length block → 8192 ≤ length out - wrote → (cut : Cut) → cut ≡ recordEnd block at → cut ≡ Cut.Short
-      → last ≡ false → ran (fed at wrote Halt.Hungry) out s ≡ answersFrom sheet program block last place n at wrote out s
+      → (r : Fed) (o : List ℕ) → r ≡ cutFed last place at wrote → o ≡ cutOut last place at wrote out → ran r o s ≡ answersFrom sheet program block last place n at wrote out s
   unfolding answersFrom onCut
-  run-cut zero at wrote out s p h g cut e f l = absurd (omega arith)
-  run-cut (suc n) at wrote out s p h g cut e f l = simp (lt-leb _ _ h, le-ltb _ _ g, ← e, f, l)
-
-  pub run-cut-last : (n at wrote : ℕ) (out : List ℕ) (s : Stores) → 0 < n → at < length block → 8192 ≤ length out - wrote → (cut : Cut) → cut ≡ recordEnd block at → cut ≡ Cut.Short
-      → last ≡ true → (r : Fed) (o : List ℕ) → r ≡ badFed place at wrote → o ≡ badOut place at wrote out → ran r o s ≡ answersFrom sheet program block last place n at wrote out s
-  unfolding answersFrom onCut
-  run-cut-last zero at wrote out s p h g cut e f l r o a b = absurd (omega arith)
-  run-cut-last (suc n) at wrote out s p h g cut e f l r o a b = simp (lt-leb _ _ h, le-ltb _ _ g, ← e, f, l) (λ i. ran (a i) (b i) s)
+  run-cut zero at wrote out s p h g cut e f r o a b = absurd (omega arith)
+  run-cut (suc n) at wrote out s p h g cut e f r o a b = simp (lt-leb _ _ h, le-ltb _ _ g, ← e, f) (λ i. ran (a i) (b i) s)
 
   pub run-faulty : (n at wrote : ℕ) (out : List ℕ) (s : Stores) → 0 < n → at < length block → 8192 ≤ length out - wrote → (cut : Cut) (end : ℕ) → cut ≡ recordEnd block at → cut ≡ Cut.Whole end
       → (body : List ℕ) → body ≡ part block (at + 2) end → (said : Said) (o₁ : List ℕ) (s₁ : Stores) → answered said o₁ s₁ ≡ saying (turnOf sheet program s body) out wrote → said ≡ Said.Faulty
@@ -77,27 +76,37 @@ module _ (sheet program block : List ℕ) (last : Bool) (place : ℕ) where
   run-more zero at wrote out s p h g cut end e f body q said next o₁ s₁ t u = absurd (omega arith)
   run-more (suc n) at wrote out s p h g cut end e f body q said next o₁ s₁ t u = rw sub-one (simp (lt-leb _ _ h, le-ltb _ _ g, ← e, f, ← q, ← t, u))
 
-  -- the version, then the records
-  pub feed-later : (out : List ℕ) (s : Stores) (x : Ran) → 0 < place → x ≡ answersFrom sheet program block last place (length block) 0 0 out s → x ≡ feedOf sheet program block last place out s
-  unfolding feedOf
-  feed-later out s x h f = simp (lt-ltb _ _ h) f
+-- ---- the version, then the records
 
-module _ (sheet program block : List ℕ) (last : Bool) (place : ℕ) (h : place ≤ 0) (out : List ℕ) (s : Stores) where
-  pub feed-nothing : length block ≡ 0 → last ≡ false → ran (fed 0 0 Halt.Hungry) out s ≡ feedOf sheet program block last place out s
-  unfolding feedOf
-  feed-nothing e l = simp (le-ltb _ _ h, eq-eqb _ _ e, l)
+module _ (block : List ℕ) (last : Bool) (place : ℕ) where
+  pub begin-later : 0 < place → Begin.At 0 ≡ beginOf block last place
+  unfolding beginOf
+  begin-later h = simp (lt-ltb _ _ h)
 
-  pub feed-empty : length block ≡ 0 → last ≡ true → (r : Fed) (o : List ℕ) → r ≡ badFed 0 0 0 → o ≡ badOut 0 0 0 out → ran r o s ≡ feedOf sheet program block last place out s
-  unfolding feedOf
-  feed-empty e l r o a b = simp (le-ltb _ _ h, eq-eqb _ _ e, l) (λ i. ran (a i) (b i) s)
+  module _ (h : place ≤ 0) where
+    pub begin-nothing : length block ≡ 0 → Begin.Not last ≡ beginOf block last place
+    unfolding beginOf
+    begin-nothing e = simp (le-ltb _ _ h, eq-eqb _ _ e)
 
-  pub feed-version : (length block ≡ 0 → ⊥) → (getD block 0 0 ≡ 1 → ⊥) → (r : Fed) (o : List ℕ) → r ≡ badFed 0 0 0 → o ≡ badOut 0 0 0 out → ran r o s ≡ feedOf sheet program block last place out s
-  unfolding feedOf
-  feed-version e v r o a b = simp (le-ltb _ _ h, ne-eqb _ _ e, ne-eqb _ _ v) (λ i. ran (a i) (b i) s)
+    pub begin-version : (length block ≡ 0 → ⊥) → (getD block 0 0 ≡ 1 → ⊥) → Begin.Not true ≡ beginOf block last place
+    unfolding beginOf
+    begin-version e v = simp (le-ltb _ _ h, ne-eqb _ _ e, ne-eqb _ _ v)
 
-  pub feed-first : (length block ≡ 0 → ⊥) → getD block 0 0 ≡ 1 → (x : Ran) → x ≡ answersFrom sheet program block last place (length block) 1 0 out s → x ≡ feedOf sheet program block last place out s
-  unfolding feedOf
-  feed-first e v x f = simp (le-ltb _ _ h, ne-eqb _ _ e, eq-eqb _ _ v) f
+    pub begin-first : (length block ≡ 0 → ⊥) → getD block 0 0 ≡ 1 → Begin.At 1 ≡ beginOf block last place
+    unfolding beginOf
+    begin-first e v = simp (le-ltb _ _ h, ne-eqb _ _ e, eq-eqb _ _ v)
+
+module _ (sheet program block : List ℕ) (last : Bool) (place : ℕ) (out : List ℕ) (s : Stores) (b : Begin) (e : b ≡ beginOf block last place) where
+  pub feed-at : (first : ℕ) → b ≡ Begin.At first → (x : Ran) → x ≡ answersFrom sheet program block last place (length block) first 0 out s → x ≡ feedOf sheet program block last place out s
+  unfolding feedOf feedBy
+  feed-at first f x q = rw (← e, f) q
+
+  pub feed-not : (faulty : Bool) → b ≡ Begin.Not faulty → (r : Fed) (o : List ℕ) → r ≡ cutFed faulty 0 0 0 → o ≡ cutOut faulty 0 0 0 out → ran r o s ≡ feedOf sheet program block last place out s
+  unfolding feedOf feedBy
+  feed-not faulty f r o p q = rw (← e, f) (λ i. ran (p i) (q i) s)
+
+pub begin-bound : (n first : ℕ) (b : Begin) → b ≡ Begin.At first → Inside n b → first ≤ n
+begin-bound n first b e w = subst (λ (x : Begin). Inside n x) e w
 
 -- What is left to answer gives what the whole gives.
 pub record Left (sheet program block : List ℕ) (last : Bool) (place first : ℕ) (out₀ : List ℕ) (s₀ : Stores) (at wrote : ℕ) (out : List ℕ) (s : Stores) : Type 0 where
@@ -119,12 +128,9 @@ module _ (sheet program block : List ℕ) (last : Bool) (place first : ℕ) (out
   left-full h g = run-full sheet program block last place (l .n) at wrote out s (some-left h) h g ∙ sym (l .same)
 
   module _ (h : at < length block) (g : 8192 ≤ length out - wrote) (cut : Cut) (e : cut ≡ recordEnd block at) where
-    pub left-cut : cut ≡ Cut.Short → last ≡ false → ran (fed at wrote Halt.Hungry) out s ≡ answersFrom sheet program block last place (length block) first 0 out₀ s₀
-    left-cut f q = run-cut sheet program block last place (l .n) at wrote out s (some-left h) h g cut e f q ∙ sym (l .same)
-
-    pub left-cut-last : cut ≡ Cut.Short → last ≡ true → (r : Fed) (o : List ℕ) → r ≡ badFed place at wrote → o ≡ badOut place at wrote out
+    pub left-cut : cut ≡ Cut.Short → (r : Fed) (o : List ℕ) → r ≡ cutFed last place at wrote → o ≡ cutOut last place at wrote out
         → ran r o s ≡ answersFrom sheet program block last place (length block) first 0 out₀ s₀
-    left-cut-last f q r o a b = run-cut-last sheet program block last place (l .n) at wrote out s (some-left h) h g cut e f q r o a b ∙ sym (l .same)
+    left-cut f r o a b = run-cut sheet program block last place (l .n) at wrote out s (some-left h) h g cut e f r o a b ∙ sym (l .same)
 
     module _ (end : ℕ) (f : cut ≡ Cut.Whole end) (body : List ℕ) (q : body ≡ part block (at + 2) end) (said : Said) (o₁ : List ℕ) (s₁ : Stores) (t : answered said o₁ s₁ ≡ saying (turnOf sheet program s body) out wrote) where
       pub left-faulty : said ≡ Said.Faulty → (r : Fed) (o : List ℕ) → r ≡ badFed place at wrote → o ≡ badOut place at wrote o₁
@@ -140,19 +146,3 @@ module _ (sheet program block : List ℕ) (last : Bool) (place first : ℕ) (out
             enough = omega arith;
             same = l .same ∙ run-more sheet program block last place (l .n) at wrote out s (some-left h) h g cut end e f body q said next o₁ s₁ t u;
           }
-
--- ---- the whole input
-
-module _ (input : List ℕ) (n : ℕ) (e : n ≡ sheetEnd input) (program out : List ℕ) (s : Stores) (made : Made) (program₁ rows₁ : List ℕ) (f : fresh made program₁ rows₁ ≡ freshCall (part input 0 n) false program s) where
-  pub whole-made : made ≡ Made.Made → (r : Fed) (o : List ℕ) (s₁ : Stores) → ran r o s₁ ≡ feedOf (part input 0 n) program₁ (part input n (length input)) true 0 out (stores rows₁ (s .names) (s .ids) (s .nodes))
-      → wholeRun (r .wrote) program₁ o s₁ ≡ wholeOf input program out s
-  unfolding wholeOf wholeBy
-  whole-made m r o s₁ q = rw (← e, ← f, m, ← q)
-
-  pub whole-sheet : (k place : ℕ) → made ≡ Made.Sheet k place → (r : ℕ) (o : List ℕ) → Wrote out 0 (sheetLine k place) r o → wholeRun r program₁ o (stores rows₁ (s .names) (s .ids) (s .nodes)) ≡ wholeOf input program out s
-  unfolding wholeOf wholeBy
-  whole-sheet k place m r o w = rw (← e, ← f, m, w .0, w .1)
-
-  pub whole-refused : (k : ℕ) → made ≡ Made.Refused k → (r : ℕ) (o : List ℕ) → Wrote out 0 (refusedLine k) r o → wholeRun r program₁ o (stores rows₁ (s .names) (s .ids) (s .nodes)) ≡ wholeOf input program out s
-  unfolding wholeOf wholeBy
-  whole-refused k m r o w = rw (← e, ← f, m, w .0, w .1)

@@ -3,18 +3,13 @@ use answers::Said;
 use answers::answer;
 use cells::part_of;
 use lines::put_bad_trace;
-use lines::put_refused;
-use lines::put_sheet_refused;
-use machine::Made;
-use machine::fresh_machine;
 use records::Cut;
 use records::record_end;
-use records::sheet_end;
 ghost use mathlib.Core.Path.{_≡_};
 ghost use Prim.Native.Nat.{_+_, _≤_};
 ghost use lib.ListN.{length};
 ghost use Rattle.stack.specs.Stores.{stores};
-ghost use Rattle.trace.specs.Run.{ran, badFed, badOut, answersFrom, feedOf, wholeRun, wholeOf};
+ghost use Rattle.trace.specs.Run.{ran, badFed, badOut, cutFed, cutOut, beginOf, Inside, answersFrom, feedOf};
 
 // Why a run over a block ended: it wants more bytes, it wants room for lines, or the last word is said.
 pub enum Halt {
@@ -30,6 +25,12 @@ pub struct Fed {
     pub halt: Halt,
 }
 
+// Where the first record of a block begins; or the trace has not begun, and whether that is a fault.
+pub enum Begin {
+    At(usize),
+    Not(bool),
+}
+
 // `bad trace` and the place of the record that starts at `at` of the block.
 fn bad_trace(out: &mut [u8], at: usize, wrote: usize, place: u64) -> Fed
     requires { ⌜ (wrote ≤ 4294967296) × (at ≤ 4294967296) × (place ≤ 9223372036854775808) ⌝ }
@@ -40,6 +41,22 @@ fn bad_trace(out: &mut [u8], at: usize, wrote: usize, place: u64) -> Fed
         used: at,
         wrote: put_bad_trace(out, wrote, place + at as u64),
         halt: Halt::Over,
+    }
+}
+
+// A record that is cut, or no version: faulty where no bytes come after it.
+fn cut_short(out: &mut [u8], at: usize, wrote: usize, place: u64, last: bool) -> Fed
+    requires { ⌜ (wrote ≤ 4294967296) × (at ≤ 4294967296) × (place ≤ 9223372036854775808) ⌝ }
+    ensures { λ r. ⌜ (r ≡ cutFed last place at wrote) × (now (out .exit) ≡ cutOut last place at wrote (now (out .entry))) ⌝ }
+    ensures { λ r. ⌜ (r .used ≡ at) × (r .wrote ≤ wrote + 34) ⌝ }
+{
+    if last {
+        return bad_trace(out, at, wrote, place);
+    }
+    Fed {
+        used: at,
+        wrote: wrote,
+        halt: Halt::Hungry,
     }
 }
 
@@ -73,14 +90,7 @@ fn answer_records(
         }
         let cut = record_end(block, at);
         let Cut::Whole(end) = cut else {
-            if last {
-                return bad_trace(out, at, wrote, place);
-            }
-            return Fed {
-                used: at,
-                wrote: wrote,
-                halt: Halt::Hungry,
-            };
+            return cut_short(out, at, wrote, place, last);
         };
         let body = part_of(block, at + 2, end);
         let said = answer(sheet, program, rows, names, ids, nodes, body, out, wrote);
@@ -95,6 +105,23 @@ fn answer_records(
         wrote: wrote,
         halt: Halt::Hungry,
     }
+}
+
+// The version stands at the trace's first byte.
+fn first_record(block: &[u8], last: bool, place: u64) -> Begin
+    ensures { λ r. ⌜ r ≡ beginOf (now (block .entry)) last place ⌝ }
+    ensures { λ r. ⌜ Inside (length (now (block .entry))) r ⌝ }
+{
+    if 0 < place {
+        return Begin::At(0);
+    }
+    if block.len() == 0 {
+        return Begin::Not(last);
+    }
+    if block[0] != 1 {
+        return Begin::Not(true);
+    }
+    Begin::At(1)
 }
 
 // Answers the records of a block that stands at `place` of the trace; the version stands first. `last`: no bytes come after the block.
@@ -114,8 +141,9 @@ pub fn feed(
     ensures { λ r. ⌜ ran r (now (out .exit)) (stores (now (rows .exit)) (now (names .exit)) (now (ids .exit)) (now (nodes .exit))) ≡ feedOf (now (sheet .entry)) (now (program .entry)) (now (block .entry)) last place (now (out .entry)) (stores (now (rows .entry)) (now (names .entry)) (now (ids .entry)) (now (nodes .entry))) ⌝ }
     ensures { λ r. ⌜ (r .used ≤ length (now (block .entry))) × (r .wrote ≤ length (now (out .exit))) ⌝ }
 {
-    if 0 < place {
-        return answer_records(
+    let begin = first_record(block, last, place);
+    match begin {
+        Begin::At(first) => answer_records(
             sheet,
             program,
             rows,
@@ -123,74 +151,11 @@ pub fn feed(
             ids,
             nodes,
             block,
-            0,
+            first,
             last,
             place,
             out,
-        );
-    }
-    if block.len() == 0 {
-        if last {
-            return bad_trace(out, 0, 0, 0);
-        }
-        return Fed {
-            used: 0,
-            wrote: 0,
-            halt: Halt::Hungry,
-        };
-    }
-    if block[0] != 1 {
-        return bad_trace(out, 0, 0, 0);
-    }
-    answer_records(
-        sheet,
-        program,
-        rows,
-        names,
-        ids,
-        nodes,
-        block,
-        1,
-        last,
-        place,
-        out,
-    )
-}
-
-// A whole input at once, sheet and trace: writes its lines and answers how many bytes they are. Lines past the end of `out` are lost.
-pub fn whole(
-    input: &[u8],
-    program: &mut [u32],
-    rows: &mut [u32],
-    names: &mut [u8],
-    ids: &mut [u64],
-    nodes: &mut [u16],
-    out: &mut [u8],
-) -> usize
-    requires { ⌜ (length (now input) ≤ 1048576) × (8192 ≤ length (now out)) × (length (now out) ≤ 1048576) ⌝ }
-    ensures { λ r. ⌜ wholeRun r (now (program .exit)) (now (out .exit)) (stores (now (rows .exit)) (now (names .exit)) (now (ids .exit)) (now (nodes .exit))) ≡ wholeOf (now (input .entry)) (now (program .entry)) (now (out .entry)) (stores (now (rows .entry)) (now (names .entry)) (now (ids .entry)) (now (nodes .entry))) ⌝ }
-    ensures { λ r. ⌜ r ≤ length (now (out .exit)) ⌝ }
-{
-    let n = sheet_end(input);
-    let sheet = &input[0..n];
-    let made = fresh_machine(sheet, false, program, rows, names, ids, nodes);
-    match made {
-        Made::Made => {
-            let fed = feed(
-                sheet,
-                program,
-                rows,
-                names,
-                ids,
-                nodes,
-                &input[n..],
-                true,
-                0,
-                out,
-            );
-            fed.wrote
-        }
-        Made::Sheet(number, place) => put_sheet_refused(out, 0, number, place),
-        Made::Refused(number) => put_refused(out, 0, number),
+        ),
+        Begin::Not(faulty) => cut_short(out, 0, 0, 0, faulty),
     }
 }

@@ -7,15 +7,10 @@ use Rattle.answers.proofs.answer.Lts as lts
 use Rattle.records.proofs.record_of.Reads as record-of-reads
 use Rattle.answers.proofs.answer_record.Reads as answer-record-reads
 use Rattle.answers.proofs.outline_room.Reads as outline-room-reads
-use Rattle.answers.proofs.popped_room.Reads as popped-room-reads
 
 -- src/lib.rt:179:24
 outline-room-requires : tie.Need-outline-room-requires
 outline-room-requires c κs = search needs
-
--- src/lib.rt:180:22
-popped-room-requires : tie.Need-popped-room-requires
-popped-room-requires c κs = search needs
 
 -- src/lib.rt:181:34
 slice-aggregate-record-of : tie.Need-slice-aggregate-record-of
@@ -28,10 +23,6 @@ record-of-requires c κs = search needs
 -- src/lib.rt:182:74
 slice-aggregate-answer-record : tie.Need-slice-aggregate-answer-record
 slice-aggregate-answer-record c = search needs
-
--- src/lib.rt:182:85
-slice-aggregate-answer-record-2 : tie.Need-slice-aggregate-answer-record-2
-slice-aggregate-answer-record-2 c = search needs
 
 -- src/lib.rt:182:5
 answer-record-requires : tie.Need-answer-record-requires
@@ -59,18 +50,16 @@ same-length-5 c = search needs
 
 -- src/lib.rt:164:1
 returns : tie.Need-returns
-returns c = (whole-record _ _ _ _ _ _ _ _ _ _ _ (c .before .before .before .before .before .before .before .before .before .before .before .before .before .before .before .before .before .before .before .before .before .before .before .outline-room .ensures) (c .before .before .before .before .before .before .before .before .before .before .before .before .before .before .before .before .before .before .before .before .before .before .popped-room .ensures) (c .before .before .before .before .before .before .before .before .before .before .before .before .before .before .before .before .before .before .before .before .record-of .ensures .0) (c .before .before .before .before .before .before .before .before .before .before .before .answer-record .ensures .0), c .before .before .before .before .before .before .before .before .before .before .before .answer-record .ensures .1)
+returns c = (whole-record _ _ _ _ _ _ _ _ _ _ (c .before .before .before .before .before .before .before .before .before .before .before .before .before .before .before .before .before .before .before .before .outline-room .ensures) (c .before .before .before .before .before .before .before .before .before .before .before .before .before .before .before .before .before .before .record-of .ensures .0) (c .before .before .before .before .before .before .before .before .before .before .answer-record .ensures .0), c .before .before .before .before .before .before .before .before .before .before .answer-record .ensures .1)
 
 pub answer-spec : {M : Type 1} → statement M
 answer-spec =
     tie.close
     (tie.spec
     outline-room-requires
-    popped-room-requires
     slice-aggregate-record-of
     record-of-requires
     slice-aggregate-answer-record
-    slice-aggregate-answer-record-2
     answer-record-requires
     same-length
     same-length-2

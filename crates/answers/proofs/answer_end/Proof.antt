@@ -5,9 +5,15 @@ use Rattle.answers.proofs.answer_end.Tie as tie
 use Rattle.answers.proofs.answer_end.Reads as reads
 use Rattle.answers.proofs.answer_end.Lts as lts
 use Rattle.machine.proofs.end.Reads as end-reads
+use Rattle.answers.proofs.popped_room.Reads as popped-room-reads
 use Rattle.answers.proofs.put_popped.Reads as put-popped-reads
 
--- src/lib.rt:109:9
+popped-room-requires : tie.Need-popped-room-requires
+popped-room-requires c κs = search needs
+
+slice-aggregate-end : tie.Need-slice-aggregate-end
+slice-aggregate-end c = search needs
+
 end-requires : tie.Need-end-requires
 end-requires c κs = search needs
 
@@ -24,14 +30,10 @@ same-length-2 : tie.Need-same-length-2
 same-length-2 c = search needs
 
 -- src/lib.rt:93:1
-same-length-3 : tie.Need-same-length-3
-same-length-3 c = search needs
-
--- src/lib.rt:93:1
 returns : tie.Need-returns
-returns c = (said-pop _ _ _ _ _ _ _ _ _ _ _ _ (c .before .before .before .before .before .before .before .before .end .ensures) (c .before .before .put-popped .ensures .0), c .before .before .put-popped .ensures .1)
+returns c = (said-pop _ _ _ _ _ _ _ _ _ _ _ _ (c .before .before .before .before .before .before .before .before .before .before .popped-room .ensures) (c .before .before .before .before .before .before .before .end .ensures) (c .before .before .put-popped .ensures .0), c .before .before .put-popped .ensures .1)
 
 pub answer-end-spec : {M : Type 1} → statement M
 answer-end-spec =
     tie.close
-    (tie.spec end-requires put-popped-requires same-length same-length-2 same-length-3 returns)
+    (tie.spec popped-room-requires slice-aggregate-end end-requires put-popped-requires same-length same-length-2 returns)

@@ -36,7 +36,7 @@ part-given-start c = search needs
 
 -- src/lib.rt:138:25
 part-given-end : tie.Need-part-given-end
-part-given-end c = let b = bound _ _ _ (c .before .read2 .given .1) (c .before .before .before .before .before .before .before .before .before .before .before .before .before .pre .1) in omega arith
+part-given-end c = let b = bound _ _ _ (c .before .read2 .given .1) (c .before .before .before .before .before .before .before .before .before .before .before .before .pre .1) in omega arith
 
 -- src/lib.rt:139:24
 answer-attributes-requires : tie.Need-answer-attributes-requires
@@ -80,7 +80,7 @@ same-length-5 c = search needs
 
 -- src/lib.rt:114:1
 returns : tie.Need-returns
-returns c = (by-start _ _ _ _ _ _ _ _ _ _ _ (c .before .before .before .before .before .before .before .before .before .before .before .before .before .before .before .before .before .before .read .given .1) _ (c .before .before .before .before .before .before .before .before .before .before .before .before .before .before .before .before .part-of .ensures) (c .before .before .before .before .before .before .before .before .before .before .answer-start .ensures .0), c .before .before .before .before .before .before .before .before .before .before .answer-start .ensures .1)
+returns c = (by-start _ _ _ _ _ _ _ _ _ _ (c .before .before .before .before .before .before .before .before .before .before .before .before .before .before .before .before .before .before .read .given .1) _ (c .before .before .before .before .before .before .before .before .before .before .before .before .before .before .before .before .part-of .ensures) (c .before .before .before .before .before .before .before .before .before .before .answer-start .ensures .0), c .before .before .before .before .before .before .before .before .before .before .answer-start .ensures .1)
 
 -- src/lib.rt:114:1
 same-length-6 : tie.Need-same-length-6
@@ -104,7 +104,7 @@ same-length-10 c = search needs
 
 -- src/lib.rt:114:1
 returns-2 : tie.Need-returns-2
-returns-2 c = (by-attributes _ _ _ _ _ _ _ _ _ _ _ _ (c .before .before .before .before .before .before .before .before .before .before .before .before .before .before .before .before .before .before .read2 .given .1) (c .before .before .before .before .before .before .before .before .before .before .answer-attributes .ensures .0), c .before .before .before .before .before .before .before .before .before .before .answer-attributes .ensures .1)
+returns-2 c = (by-attributes _ _ _ _ _ _ _ _ _ _ _ (c .before .before .before .before .before .before .before .before .before .before .before .before .before .before .before .before .before .before .read2 .given .1) (c .before .before .before .before .before .before .before .before .before .before .answer-attributes .ensures .0), c .before .before .before .before .before .before .before .before .before .before .answer-attributes .ensures .1)
 
 -- src/lib.rt:114:1
 same-length-11 : tie.Need-same-length-11
@@ -127,16 +127,12 @@ same-length-15 : tie.Need-same-length-15
 same-length-15 c = search needs
 
 -- src/lib.rt:114:1
-same-length-16 : tie.Need-same-length-16
-same-length-16 c = search needs
-
--- src/lib.rt:114:1
 returns-3 : tie.Need-returns-3
-returns-3 c = (by-end _ _ _ _ _ _ _ _ _ _ (c .before .before .before .before .before .before .before .before .before .before .before .before .before .before .enum-told .given .1) _ (c .before .before .before .before .before .before .before .before .before .before .before .before .before .part-of2 .ensures) (c .before .before .before .before .before .before .answer-end .ensures .0), c .before .before .before .before .before .before .answer-end .ensures .1)
+returns-3 c = (by-end _ _ _ _ _ _ _ _ _ (c .before .before .before .before .before .before .before .before .before .before .before .enum-told .given .1) _ (c .before .before .before .before .before .before .before .before .before .before .part-of2 .ensures) (c .before .before .before .before .answer-end .ensures .0), c .before .before .before .before .answer-end .ensures .1)
 
 -- src/lib.rt:114:1
 returns-4 : tie.Need-returns-4
-returns-4 c = (by-fault _ _ _ _ _ _ _ _ _ (c .enum-told2 .given .1), tt)
+returns-4 c = (by-fault _ _ _ _ _ _ _ _ (c .enum-told2 .given .1), tt)
 
 pub answer-record-spec : {M : Type 1} → statement M
 answer-record-spec =
@@ -171,6 +167,5 @@ answer-record-spec =
     same-length-13
     same-length-14
     same-length-15
-    same-length-16
     returns-3
     returns-4)

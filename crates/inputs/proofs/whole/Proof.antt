@@ -1,14 +1,14 @@
-use Rattle.trace.proofs.Laws.{whole-made, whole-sheet, whole-refused}
+use Rattle.inputs.proofs.Laws.{whole-made, whole-sheet, whole-refused}
 use borrow.Author.Needs.{needs}
-use Rattle.trace.proofs.whole.Statement.{statement}
-use Rattle.trace.proofs.whole.Tie as tie
-use Rattle.trace.proofs.whole.Reads as reads
-use Rattle.trace.proofs.whole.Lts as lts
+use Rattle.inputs.proofs.whole.Statement.{statement}
+use Rattle.inputs.proofs.whole.Tie as tie
+use Rattle.inputs.proofs.whole.Reads as reads
+use Rattle.inputs.proofs.whole.Lts as lts
 use Rattle.lines.proofs.put_refused.Reads as put-refused-reads
 use Rattle.lines.proofs.put_sheet_refused.Reads as put-sheet-refused-reads
 use Rattle.machine.proofs.fresh_machine.Reads as fresh-machine-reads
 use Rattle.records.proofs.sheet_end.Reads as sheet-end-reads
 use Rattle.trace.proofs.feed.Reads as feed-reads
 
 -- src/lib.rt:188:9
 sheet-end-requires : tie.Need-sheet-end-requires
