@@ -102,3 +102,7 @@ pub negation-law : (holds : Bool) → T (opposite true holds) ↔ (T holds → �
 unfolding opposite
 negation-law true = (λ t u. t, λ n. n tt)
 negation-law false = (λ t u. u, λ n. tt)
+
+pub plain-law : (holds : Bool) → T (opposite false holds) ↔ T holds
+unfolding opposite
+plain-law holds = (λ t. t, λ t. t)
