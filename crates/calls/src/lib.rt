@@ -1,7 +1,4 @@
 //! Library cases: calls that go straight to the machine's functions, and the lines that answer them.
-use answers::answer_attributes;
-use answers::answer_start;
-use answers::put_popped;
 use cells::at8;
 use cells::numbers::u32_at;
 use cells::part_of;
@@ -16,6 +13,9 @@ use machine::Top;
 use machine::TopReply;
 use machine::fresh_machine;
 use machine::id_set;
+use replies::answer_attributes;
+use replies::answer_start;
+use replies::put_popped;
 ghost use mathlib.Core.Path.{_≡_};
 ghost use Prim.Native.Nat.{_+_, _*_, _≤_, _<_};
 ghost use lib.ListN.{length};

@@ -13,9 +13,10 @@ use Rattle.lines.specs.Lines.{badTraceLine}
 use Rattle.records.specs.Records.{recordEnd}
 use Rattle.records.specs.declared.Cut.{Cut}
 use Rattle.stack.specs.Stores.{Stores}
-use Rattle.answers.specs.Answers.{Answered, answered, Within, turnOf, saying}
+use Rattle.answers.specs.Answers.{turnOf}
+use Rattle.replies.specs.Replies.{Answered, answered, Within, saying}
 use Rattle.trace.specs.Run.{fed, Ran, ran, badFed, badOut, badRun, cutFed, cutOut, onCut, onSaid, answersFrom, beginOf, feedBy, feedOf, Inside}
-use Rattle.answers.specs.declared.Said.{Said}
+use Rattle.replies.specs.declared.Said.{Said}
 use Rattle.trace.specs.declared.Begin.{Begin}
 use Rattle.trace.specs.declared.Fed.{Fed}
 use Rattle.trace.specs.declared.Halt.{Halt}

@@ -1,10 +1,10 @@
 //! A trace answered record by record, block by block (01, section 8): whole records in, lines out.
-use answers::Said;
 use answers::answer;
 use cells::part_of;
 use lines::put_bad_trace;
 use records::Cut;
 use records::record_end;
+use replies::Said;
 ghost use mathlib.Core.Path.{_≡_};
 ghost use Prim.Native.Nat.{_+_, _≤_};
 ghost use lib.ListN.{length};

@@ -6,9 +6,9 @@ use Rattle.answers.proofs.answer_record.Tie as tie
 use Rattle.answers.proofs.answer_record.Reads as reads
 use Rattle.answers.proofs.answer_record.Lts as lts
 use Rattle.cells.proofs.part_of.Reads as part-of-reads
-use Rattle.answers.proofs.answer_attributes.Reads as answer-attributes-reads
-use Rattle.answers.proofs.answer_end.Reads as answer-end-reads
-use Rattle.answers.proofs.answer_start.Reads as answer-start-reads
+use Rattle.replies.proofs.answer_attributes.Reads as answer-attributes-reads
+use Rattle.replies.proofs.answer_end.Reads as answer-end-reads
+use Rattle.replies.proofs.answer_start.Reads as answer-start-reads
 
 -- src/lib.rt:133:23
 enum-known-read : tie.Need-enum-known-read

@@ -1,10 +1,10 @@
 use native.Mathlib.Omega.{arith}
-use Rattle.answers.proofs.Laws.{reply-match, reply-attributes, reply-refused}
+use Rattle.replies.proofs.Laws.{reply-match, reply-attributes, reply-refused}
 use borrow.Author.Needs.{needs}
-use Rattle.answers.proofs.put_reply.Statement.{statement}
-use Rattle.answers.proofs.put_reply.Tie as tie
-use Rattle.answers.proofs.put_reply.Reads as reads
-use Rattle.answers.proofs.put_reply.Lts as lts
+use Rattle.replies.proofs.put_reply.Statement.{statement}
+use Rattle.replies.proofs.put_reply.Tie as tie
+use Rattle.replies.proofs.put_reply.Reads as reads
+use Rattle.replies.proofs.put_reply.Lts as lts
 use Rattle.lines.proofs.put_attrs.Reads as put-attrs-reads
 use Rattle.lines.proofs.put_match.Reads as put-match-reads
 use Rattle.lines.proofs.put_refused.Reads as put-refused-reads

@@ -1,9 +1,9 @@
-use Rattle.answers.proofs.Laws.{popped-elements, popped-refused}
+use Rattle.replies.proofs.Laws.{popped-elements, popped-refused}
 use borrow.Author.Needs.{needs}
-use Rattle.answers.proofs.put_popped.Statement.{statement}
-use Rattle.answers.proofs.put_popped.Tie as tie
-use Rattle.answers.proofs.put_popped.Reads as reads
-use Rattle.answers.proofs.put_popped.Lts as lts
+use Rattle.replies.proofs.put_popped.Statement.{statement}
+use Rattle.replies.proofs.put_popped.Tie as tie
+use Rattle.replies.proofs.put_popped.Reads as reads
+use Rattle.replies.proofs.put_popped.Lts as lts
 use Rattle.lines.proofs.put_pop.Reads as put-pop-reads
 use Rattle.lines.proofs.put_refused.Reads as put-refused-reads
 

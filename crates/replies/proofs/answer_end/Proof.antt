@@ -1,12 +1,12 @@
-use Rattle.answers.proofs.Laws.{said-pop}
+use Rattle.replies.proofs.Laws.{said-pop}
 use borrow.Author.Needs.{needs}
-use Rattle.answers.proofs.answer_end.Statement.{statement}
-use Rattle.answers.proofs.answer_end.Tie as tie
-use Rattle.answers.proofs.answer_end.Reads as reads
-use Rattle.answers.proofs.answer_end.Lts as lts
+use Rattle.replies.proofs.answer_end.Statement.{statement}
+use Rattle.replies.proofs.answer_end.Tie as tie
+use Rattle.replies.proofs.answer_end.Reads as reads
+use Rattle.replies.proofs.answer_end.Lts as lts
 use Rattle.machine.proofs.end.Reads as end-reads
-use Rattle.answers.proofs.popped_room.Reads as popped-room-reads
-use Rattle.answers.proofs.put_popped.Reads as put-popped-reads
+use Rattle.replies.proofs.popped_room.Reads as popped-room-reads
+use Rattle.replies.proofs.put_popped.Reads as put-popped-reads
 
 popped-room-requires : tie.Need-popped-room-requires
 popped-room-requires c κs = search needs

@@ -1,11 +1,11 @@
-use Rattle.answers.proofs.Laws.{said-line}
+use Rattle.replies.proofs.Laws.{said-line}
 use borrow.Author.Needs.{needs}
-use Rattle.answers.proofs.answer_start.Statement.{statement}
-use Rattle.answers.proofs.answer_start.Tie as tie
-use Rattle.answers.proofs.answer_start.Reads as reads
-use Rattle.answers.proofs.answer_start.Lts as lts
+use Rattle.replies.proofs.answer_start.Statement.{statement}
+use Rattle.replies.proofs.answer_start.Tie as tie
+use Rattle.replies.proofs.answer_start.Reads as reads
+use Rattle.replies.proofs.answer_start.Lts as lts
 use Rattle.machine.proofs.start.Reads as start-reads
-use Rattle.answers.proofs.put_reply.Reads as put-reply-reads
+use Rattle.replies.proofs.put_reply.Reads as put-reply-reads
 
 -- src/lib.rt:67:9
 start-requires : tie.Need-start-requires

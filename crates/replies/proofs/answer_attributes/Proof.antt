@@ -1,11 +1,11 @@
-use Rattle.answers.proofs.Laws.{said-line}
+use Rattle.replies.proofs.Laws.{said-line}
 use borrow.Author.Needs.{needs}
-use Rattle.answers.proofs.answer_attributes.Statement.{statement}
-use Rattle.answers.proofs.answer_attributes.Tie as tie
-use Rattle.answers.proofs.answer_attributes.Reads as reads
-use Rattle.answers.proofs.answer_attributes.Lts as lts
+use Rattle.replies.proofs.answer_attributes.Statement.{statement}
+use Rattle.replies.proofs.answer_attributes.Tie as tie
+use Rattle.replies.proofs.answer_attributes.Reads as reads
+use Rattle.replies.proofs.answer_attributes.Lts as lts
 use Rattle.machine.proofs.attributes.Reads as attributes-reads
-use Rattle.answers.proofs.put_reply.Reads as put-reply-reads
+use Rattle.replies.proofs.put_reply.Reads as put-reply-reads
 
 -- src/lib.rt:88:9
 attributes-requires : tie.Need-attributes-requires
