@@ -25,7 +25,7 @@ use Rattle.exec.specs.Cursors as cursors
 use Rattle.instructions.specs.Instructions.{rowWord, keyFits, tagTestsHold, attributeTestsHold, tagTestsPass, tagPasses, attributePasses, asks}
 use Rattle.exec.specs.Cursors.{leftIn, hangs}
 use Rattle.exec.specs.CursorLaws.{hangs-whole}
-use Rattle.exec.specs.Instructions as instructions
+use Rattle.instructions.specs.Instructions as instructions
 use Rattle.instructions.specs.FoundIds.{idsOfNode}
 use Rattle.meaning.specs.Lists.{every, keep, full}
 use Rattle.meaning.specs.Document.{Link, child, descendant}

@@ -12,7 +12,7 @@ use Rattle.node_tests.specs.Tests.{readTagTest, readAttributeTest}
 use Rattle.sheet.specs.Records.{NodeRecord, recordAt, endOf, tagCount, attributeCount, testsAt, testsEnd, testsFrom}
 use Rattle.sheet.specs.Spelling.{Inside, Spells, Sheet}
 use Rattle.instructions.specs.Instructions.{rowWord}
-use Rattle.exec.specs.Instructions as instructions
+use Rattle.instructions.specs.Instructions as instructions
 use Rattle.meaning.specs.Lists.{_∈_, here, there, Distinct, keep, put-if, sum}
 use Rattle.meaning.specs.ListLaws.{mem-keep}
 use Rattle.meaning.specs.Document.{child, descendant}
