@@ -5,8 +5,9 @@ use mathlib.Core.Path.{_≡_, _∙_, subst}
 use Prim.Native.Nat.{ℕ, _≤_}
 use lib.ListN.{length}
 use Rattle.cells.specs.Numbers.{part}
-use Rattle.records.specs.Records.{Read, read, recordOf, Fits}
-use Rattle.records.specs.declared.Record.{Record}
+use Rattle.attribute_records.specs.AttributeRecords.{Read, read, Fits}
+use Rattle.records.specs.Records.{recordOf}
+use Rattle.attribute_records.specs.declared.Record.{Record}
 use Rattle.replies.specs.Replies.{startTurn, attributesTurn, endTurn, Answered, answered, saying}
 use Rattle.replies.specs.declared.Said.{Said}
 use Rattle.stack.specs.Stores.{Stores}

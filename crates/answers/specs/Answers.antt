@@ -3,8 +3,9 @@ use mathlib.Core.List.{List}
 use Prim.Native.Nat.{ℕ}
 use lib.ListN.{length, replicate}
 use Rattle.cells.specs.Numbers.{part}
-use Rattle.records.specs.Records.{Read, recordOf}
-use Rattle.records.specs.declared.Record.{Record}
+use Rattle.attribute_records.specs.AttributeRecords.{Read}
+use Rattle.records.specs.Records.{recordOf}
+use Rattle.attribute_records.specs.declared.Record.{Record}
 use Rattle.replies.specs.Replies.{Turn, startTurn, attributesTurn, endTurn}
 use Rattle.stack.specs.Stores.{Stores}
 

@@ -1,6 +1,6 @@
 //! One record, one line: the machine's calls by what the record says.
+use attribute_records::Record;
 use cells::part_of;
-use records::Record;
 use records::record_of;
 use replies::Said;
 use replies::answer_attributes;
@@ -11,7 +11,7 @@ ghost use Prim.Native.Nat.{_+_, _≤_};
 ghost use lib.ListN.{length};
 ghost use Rattle.stack.specs.Stores.{stores};
 ghost use Rattle.answers.specs.Answers.{turnBy, outlineRoom, turnOf};
-ghost use Rattle.records.specs.Records.{Fits};
+ghost use Rattle.attribute_records.specs.AttributeRecords.{Fits};
 ghost use Rattle.replies.specs.Replies.{Within, answered, saying};
 
 // Answers a record that was read, with its outlines, if it is of its form.

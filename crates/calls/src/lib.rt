@@ -1,21 +1,16 @@
-//! Library cases: calls that go straight to the machine's functions, and the lines that answer them.
-use cells::at8;
+//! Calls of a library case, each read from the input and made straight to the machine.
+use case_lines::least;
+use case_lines::put_made;
+use case_lines::put_sets;
+use case_lines::put_top;
 use cells::numbers::u32_at;
 use cells::part_of;
 use cells::put32;
-use lines::put_ids;
-use lines::put_refused;
-use lines::put_sheet_refused;
-use lines::put_text;
-use machine::Made;
-use machine::Popped;
-use machine::Top;
-use machine::TopReply;
-use machine::fresh_machine;
-use machine::id_set;
+use ends::id_set;
+use making::fresh_machine;
 use replies::answer_attributes;
 use replies::answer_start;
-use replies::put_popped;
+use reply_lines::put_popped;
 ghost use mathlib.Core.Path.{_≡_};
 ghost use Prim.Native.Nat.{_+_, _*_, _≤_, _<_};
 ghost use lib.ListN.{length};
@@ -41,34 +36,7 @@ fn string_end(input: &[u8], at: usize) -> usize
     end
 }
 
-fn least(a: usize, b: usize) -> usize
-    ensures { λ r. ⌜ (r ≤ a) × (r ≤ b) ⌝ }
-{
-    if a < b { a } else { b }
-}
-
-fn put_made(out: &mut [u8], at: usize, made: Made) -> usize
-    requires { ⌜ at ≤ 4294967296 ⌝ }
-    ensures { λ r. ⌜ r ≤ at + 4096 ⌝ }
-{
-    match made {
-        Made::Made => put_text(out, at, b"made\n"),
-        Made::Sheet(number, place) => put_sheet_refused(out, at, number, place),
-        Made::Refused(number) => put_refused(out, at, number),
-    }
-}
-
-// The ids of a set, on a line.
-fn put_set(out: &mut [u8], at: usize, words: &[u64]) -> usize
-    requires { ⌜ (at ≤ 4294967296) × (length (now words) ≤ 2) ⌝ }
-    ensures { λ r. ⌜ r ≤ at + 4096 ⌝ }
-{
-    let mut next = put_text(out, at, b"ids");
-    next = put_ids(out, next, words);
-    put_text(out, next, b"\n")
-}
-
-fn make_call(
+pub fn make_call(
     s: State,
     input: &[u8],
     program: &mut [u32],
@@ -103,7 +71,7 @@ fn make_call(
     }
 }
 
-fn start_call(
+pub fn start_call(
     s: State,
     input: &[u8],
     program: &[u32],
@@ -168,7 +136,7 @@ fn read_numbers(input: &[u8], at: usize, n: usize, room: &mut [u32]) -> usize
     count
 }
 
-fn attributes_call(
+pub fn attributes_call(
     s: State,
     input: &[u8],
     program: &[u32],
@@ -210,29 +178,6 @@ fn attributes_call(
     }
 }
 
-// The ids of each popped element, a line each, as long as there is room for lines.
-fn put_sets(out: &mut [u8], at: usize, popped: &[u64], answer: Popped) -> usize
-    requires { ⌜ at ≤ 139264 ⌝ }
-    ensures { λ r. ⌜ r ≤ 143360 ⌝ }
-{
-    let Popped::Elements(n) = answer else {
-        return at;
-    };
-    let count = least(n, popped.len() / 2);
-    let mut next = at;
-    let mut i = 0;
-    while i < count {
-        if 131072 < next {
-            return next;
-        }
-        let from = i * 2;
-        let to = i * 2 + 2;
-        next = put_set(out, next, &popped[from..to]);
-        i += 1;
-    }
-    next
-}
-
 fn end_lines(
     sheet: &[u8],
     program: &[u32],
@@ -248,12 +193,12 @@ fn end_lines(
     requires { ⌜ at ≤ 131072 ⌝ }
     ensures { λ r. ⌜ r ≤ 143360 ⌝ }
 {
-    let answer = machine::end(sheet, program, rows, names, ids, nodes, name, popped);
+    let answer = ends::end(sheet, program, rows, names, ids, nodes, name, popped);
     let next = put_popped(out, at, answer);
     put_sets(out, next, popped, answer)
 }
 
-fn end_call(
+pub fn end_call(
     s: State,
     input: &[u8],
     program: &[u32],
@@ -293,7 +238,7 @@ fn end_call(
     }
 }
 
-fn ids_call(
+pub fn ids_call(
     s: State,
     input: &[u8],
     program: &[u32],
@@ -315,99 +260,4 @@ fn ids_call(
         sheet_end: s.sheet_end,
         size: s.size,
     }
-}
-
-fn put_top(out: &mut [u8], at: usize, reply: TopReply) -> usize
-    requires { ⌜ at ≤ 131072 ⌝ }
-    ensures { λ r. ⌜ r ≤ 143360 ⌝ }
-{
-    let top = reply.top;
-    let words = reply.ids;
-    match top {
-        Top::Ids => put_set(out, at, &words),
-        Top::NothingOpen => put_text(out, at, b"nothing open\n"),
-        Top::Refused(number) => put_refused(out, at, number),
-    }
-}
-
-// The call at hand, by its kind; any other ends the case.
-fn one_call(
-    s: State,
-    input: &[u8],
-    program: &mut [u32],
-    rows: &mut [u32],
-    names: &mut [u8],
-    ids: &mut [u64],
-    nodes: &mut [u16],
-    out: &mut [u8],
-) -> State
-    requires { ⌜ (length (now input) ≤ 131072) × (s .at ≤ 131072) × (s .wrote ≤ 131072) × (s .size ≤ length (now program)) ⌝ }
-    ensures { λ r. ⌜ (r .at ≤ 262144) × (r .wrote ≤ 143360) × (r .size ≤ length (now (program .exit))) ⌝ }
-{
-    let kind = at8(input, s.at);
-    if kind == 1 {
-        return make_call(s, input, program, rows, names, ids, nodes, out);
-    }
-    let n = s.size;
-    tag_call(s, kind, input, &program[0..n], rows, names, ids, nodes, out)
-}
-
-fn tag_call(
-    s: State,
-    kind: usize,
-    input: &[u8],
-    program: &[u32],
-    rows: &mut [u32],
-    names: &mut [u8],
-    ids: &mut [u64],
-    nodes: &mut [u16],
-    out: &mut [u8],
-) -> State
-    requires { ⌜ (length (now input) ≤ 131072) × (s .at ≤ 131072) × (s .wrote ≤ 131072) ⌝ }
-    ensures { λ r. ⌜ (r .at ≤ 262144) × (r .wrote ≤ 143360) × (r .size ≡ s .size) ⌝ }
-{
-    if kind == 2 {
-        return start_call(s, input, program, rows, names, ids, nodes, out);
-    }
-    if kind == 3 {
-        return attributes_call(s, input, program, rows, names, ids, nodes, out);
-    }
-    if kind == 4 {
-        return end_call(s, input, program, rows, names, ids, nodes, out);
-    }
-    ids_call(s, input, program, rows, names, ids, nodes, out)
-}
-
-// All calls of a case, at most 65,536 of them. Answers where the lines end.
-pub fn replay_calls(
-    input: &[u8],
-    program: &mut [u32],
-    rows: &mut [u32],
-    names: &mut [u8],
-    ids: &mut [u64],
-    nodes: &mut [u16],
-    out: &mut [u8],
-) -> usize
-    requires { ⌜ (length (now input) ≤ 131072) × (length (now out) ≡ 131072) ⌝ }
-    ensures { λ r. ⌜ r ≤ length (now (out .exit)) ⌝ }
-{
-    let mut s = State {
-        at: 0,
-        wrote: 0,
-        sheet: 0,
-        sheet_end: 0,
-        size: 0,
-    };
-    let mut left: u64 = 65536;
-    while 0 < left {
-        if input.len() <= s.at {
-            return s.wrote;
-        }
-        s = one_call(s, input, program, rows, names, ids, nodes, out);
-        if 131072 < s.wrote {
-            return 0;
-        }
-        left -= 1;
-    }
-    0
 }

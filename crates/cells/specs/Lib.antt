@@ -1,4 +1,2 @@
 pub mod Numbers
-pub mod Ids
-pub mod IdLaws
 pub mod Stretches

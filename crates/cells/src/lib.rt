@@ -4,7 +4,6 @@ ghost use Prim.Native.Nat.{_<_, _^_};
 ghost use lib.ListN.{getD, set};
 ghost use Rattle.cells.specs.Numbers.{part};
 
-pub mod ids;
 pub mod numbers;
 
 pub fn get8(s: &[u8], i: usize) -> u8

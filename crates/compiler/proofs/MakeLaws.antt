@@ -10,16 +10,16 @@ use borrow.Author.Tests.{lt-ltb, le-ltb}
 use Rattle.cells.specs.Numbers.{be16}
 use Rattle.meaning.specs.Document.{child, descendant}
 use Rattle.meaning.specs.Trees.{Forest, size}
-use Rattle.sheet.specs.Records.{NodeRecord, recordAt}
+use Rattle.node_records.specs.Records.{NodeRecord, recordAt}
 use Rattle.sheet.specs.Parser.{Parsed, parseSheet, checkedOf}
 use Rattle.sheet.specs.Spelling.{Spells, Sheet}
 use Rattle.sheet.specs.SpellingLaws.{good-sheet, spelt-width}
 use Rattle.sheet.specs.SpellingLaws as spelling
 use Rattle.sheet.specs.declared.Checked.{Checked}
-use Rattle.compiler.specs.Program.{anyOfType, usesNthOfType}
+use Rattle.program.specs.Program.{anyOfType, usesNthOfType}
 use Rattle.compiler.specs.Placing.{layTrees, Room, RecordsInside, recordsUse}
 use Rattle.compiler.specs.Compiler.{compiledOf, storeOf}
-use Rattle.compiler.specs.declared.compiler.Compiled.{Compiled}
+use Rattle.compiler.specs.declared.Compiled.{Compiled}
 use Rattle.compiler.proofs.PlacingLaws.{lay-out, emitted-layout}
 
 -- ---- the records, one after the other, are the nodes of the forest

@@ -9,14 +9,14 @@ use lib.Seq.{sets}
 use Rattle.meaning.specs.Document.{Link, child, descendant}
 use Rattle.meaning.specs.Trees.{Forest, end, tree, width, size}
 use Rattle.meaning.specs.Layout.{Instruction, ends, ranges, block, below, layout, length-block, length-layout}
-use Rattle.sheet.specs.Records.{NodeRecord, recordAt, endOf, childCount, descendantCount}
+use Rattle.node_records.specs.Records.{NodeRecord, recordAt, endOf, childCount, descendantCount}
 use Rattle.sheet.specs.Spelling.{Spells}
 use Rattle.sheet.specs.SpellingLaws.{spelt-width}
-use Rattle.compiler.specs.Program.{row, rows}
+use Rattle.program.specs.Program.{row, rows, instructionAt}
 use Rattle.compiler.specs.StoreLaws.{length-row, length-rows}
-use Rattle.compiler.specs.Placing.{instructionAt, Laid, layNode, layMany, layAt, layTrees}
+use Rattle.compiler.specs.Placing.{Laid, layNode, layMany, layAt, layTrees}
 use Rattle.compiler.proofs.Sets.{sets-append, gather}
-use Rattle.compiler.proofs.RowLaws.{rows-append, row-same}
+use Rattle.program.proofs.RowLaws.{rows-append, row-same}
 
 -- ---- the recursion, one step
 

@@ -6,11 +6,11 @@ use native.Mathlib.Omega.{arith}
 use lib.Seq.{sets}
 use Rattle.meaning.specs.Document.{Link, child, descendant}
 use Rattle.meaning.specs.Trees.{Forest, end, tree, size}
-use Rattle.sheet.specs.Records.{NodeRecord, endOf, childCount, descendantCount}
+use Rattle.node_records.specs.Records.{NodeRecord, endOf, childCount, descendantCount}
 use Rattle.sheet.specs.Spelling.{Inside, Spells}
 use Rattle.sheet.specs.SpellingLaws.{spelt-width}
-use Rattle.compiler.specs.Program.{row}
-use Rattle.compiler.specs.Placing.{instructionAt, layAt, layTrees, Room}
+use Rattle.program.specs.Program.{row, instructionAt}
+use Rattle.compiler.specs.Placing.{layAt, layTrees, Room}
 use Rattle.compiler.proofs.PlacingLaws.{lay-out, size-is, level, tree-ends}
 
 -- one tree, taken apart

@@ -7,10 +7,10 @@ use lib.ListN.{length}
 use lib.Seq.{sets}
 use Rattle.meaning.specs.Trees.{Forest, size}
 use Rattle.meaning.specs.Layout.{layout}
-use Rattle.sheet.specs.Records.{NodeRecord}
+use Rattle.node_records.specs.Records.{NodeRecord}
 use Rattle.sheet.specs.Parser.{Parsed, refused, read}
-use Rattle.compiler.specs.Program.{rows, usesNthOfType}
-use Rattle.compiler.specs.declared.compiler.Compiled.{Compiled}
+use Rattle.program.specs.Program.{rows, usesNthOfType}
+use Rattle.compiler.specs.declared.Compiled.{Compiled}
 
 -- How many instructions have room in a store.
 abbrev pub places : List ℕ → ℕ

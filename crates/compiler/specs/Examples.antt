@@ -9,12 +9,13 @@ use Rattle.meaning.specs.Trees.{size}
 use Rattle.meaning.specs.Layout.{below}
 use Rattle.names.specs.Names.{hashOf, nameKey}
 use Rattle.node_tests.specs.Tests.{tagKind, readTagTest}
-use Rattle.sheet.specs.Records.{testsFrom, testsEnd, recordAt}
+use Rattle.node_records.specs.Records.{testsFrom, testsEnd, recordAt}
 use Rattle.sheet.specs.Meaning.{ofType}
-use Rattle.sheet.specs.Parser.{thenStep, kindOk, nameLengthOk, comparisonOk, bodyOk, checkTest, checkTests, rising, checkCounts, checkIds, checkRecord, andThen, afterStep, parseTree, parseMany, treeAt, parseTrees, parseEnd, parseSheet}
-use Rattle.compiler.specs.Program.{tagKey, testKey, nodeKey, words, row, rows, anyOfType, usesNthOfType}
+use Rattle.node_records.specs.Checks.{thenStep, kindOk, nameLengthOk, comparisonOk, bodyOk, checkTest, checkTests, rising, checkCounts, checkIds, checkRecord}
+use Rattle.sheet.specs.Parser.{andThen, afterStep, parseTree, parseMany, treeAt, parseTrees, parseEnd, parseSheet}
+use Rattle.program.specs.Program.{tagKey, testKey, nodeKey, words, row, rows, anyOfType, usesNthOfType}
 use Rattle.compiler.specs.Compiler.{compiledOf, storeOf}
-use Rattle.compiler.specs.declared.compiler.Compiled.{Compiled}
+use Rattle.compiler.specs.declared.Compiled.{Compiled}
 
 -- Five records in the order of the sheet, A, C, F, G, B, each with one test, for the local name in small letters.
 unfoldable pub p10 : List ℕ

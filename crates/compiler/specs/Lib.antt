@@ -1,5 +1,3 @@
-pub mod Program
-pub mod KeyLaws
 pub mod Compiler
 pub mod StoreLaws
 pub mod MadeLaws

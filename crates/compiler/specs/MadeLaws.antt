@@ -9,13 +9,13 @@ use lib.Seq.{sets}
 use borrow.Author.Tests.{ltb-false}
 use Rattle.meaning.specs.Trees.{Forest, size}
 use Rattle.meaning.specs.Layout.{layout}
-use Rattle.sheet.specs.Records.{NodeRecord}
+use Rattle.node_records.specs.Records.{NodeRecord}
 use Rattle.sheet.specs.Parser.{Parsed, refused, read, parseSheet}
 use Rattle.sheet.specs.Spelling.{Sheet}
 use Rattle.sheet.specs.SpellingLaws.{good-sheet}
-use Rattle.compiler.specs.Program.{rows, usesNthOfType}
+use Rattle.program.specs.Program.{rows, usesNthOfType}
 use Rattle.compiler.specs.Compiler.{places, compiledOf, storeOf}
-use Rattle.compiler.specs.declared.compiler.Compiled.{Compiled}
+use Rattle.compiler.specs.declared.Compiled.{Compiled}
 
 -- The sheet is good and spells a forest, which has room in the store; the flag and the rows are the forest's.
 pub record Made (s store : List ℕ) (nth : Bool) : Type 0 where

@@ -3,19 +3,10 @@ use mathlib.Core.Bool.{Bool, false, _||_}
 use mathlib.Core.List.{List}
 use Prim.Native.Nat.{ℕ, zero, suc, _+_, _*_, _≤_}
 use lib.Seq.{sets}
-use Rattle.meaning.specs.Document.{child, descendant, by-link}
 use Rattle.meaning.specs.Trees.{Forest, size}
-use Rattle.meaning.specs.Layout.{Range, Instruction}
-use Rattle.sheet.specs.Records.{NodeRecord, recordAt, endOf, childCount, descendantCount}
+use Rattle.node_records.specs.Records.{NodeRecord, recordAt, endOf, childCount, descendantCount}
 use Rattle.sheet.specs.Spelling.{Inside, Spells}
-use Rattle.compiler.specs.Program.{row, anyOfType}
-
--- The instruction of the record at a place, its blocks at two addresses.
-abbrev pub instructionAt : List ℕ → (at children descendants : ℕ) → Instruction NodeRecord
-instructionAt s at children descendants = record {
-  says = recordAt s at;
-  range = by-link (λ _. Range) (record { first = children; count = childCount s at }) (record { first = descendants; count = descendantCount s at });
-}
+use Rattle.program.specs.Program.{row, anyOfType, instructionAt}
 
 -- The store, where the next record is, and the first address that is free.
 pub record Laid : Type 0 where

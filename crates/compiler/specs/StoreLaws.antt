@@ -9,9 +9,9 @@ use lib.Seq.{sets, length-sets, sets-eq, getD-append-add, getD-drop}
 use Rattle.meaning.specs.Document.{Link, child, descendant, by-link}
 use Rattle.meaning.specs.Trees.{Forest, end, tree, width, size}
 use Rattle.meaning.specs.Layout.{Instruction, begins, ends, block, below, layout, fetch, length-layout}
-use Rattle.sheet.specs.Records.{NodeRecord, recordAt}
+use Rattle.node_records.specs.Records.{NodeRecord, recordAt}
 use Rattle.sheet.specs.Spelling.{Inside, Spells}
-use Rattle.compiler.specs.Program.{words, row, rows}
+use Rattle.program.specs.Program.{words, row, rows}
 
 -- ---- rows in a store
 

@@ -12,10 +12,10 @@ use Rattle.rules.specs.Attributes.{attributesOf}
 use Rattle.sheet.specs.Parser.{nodeCount, rootCount}
 use Rattle.stack.specs.Stores.{heldKind, heldFound, foundFrom}
 use Rattle.stack.specs.Laws.{written-cat}
-use Rattle.exec.specs.Cursors.{firstCursor}
+use Rattle.cursors.specs.Cursors.{firstCursor}
 use Rattle.exec.specs.Scans.{Sought, foundIn, answerFrom, tagScan, attributeScan}
-use Rattle.exec.specs.declared.cursor.Cursor.{Cursor}
-use Rattle.exec.specs.declared.cursor.Ranges.{Ranges}
+use Rattle.cursors.specs.declared.Cursor.{Cursor}
+use Rattle.cursors.specs.declared.Ranges.{Ranges}
 use Rattle.exec.specs.declared.scan.Scanned.{Scanned}
 use Rattle.course.specs.Course.{isHtml, childPosition, typePosition, liveRanges, firstLive, heldCursor, begin, resumed}
 

@@ -8,11 +8,11 @@ use Rattle.names.specs.Names.{nameKey}
 use Rattle.rules.specs.Attributes.{attributesOf}
 use Rattle.sheet.specs.Parser.{nodeCount, rootCount}
 use Rattle.stack.specs.Stores.{ancestorsFrom, opens, parentsTop, ancestorsTop, rowWord, children, oneMore, timesOf, heldKind, heldFound}
-use Rattle.exec.specs.Cursors.{cursorOf, firstCursor}
+use Rattle.cursors.specs.Cursors.{cursorOf, firstCursor}
 use Rattle.exec.specs.Scans.{Sought, stopped, tagScan, attributeScan}
-use Rattle.exec.specs.declared.cursor.Cursor.{Cursor}
-use Rattle.exec.specs.declared.cursor.Ranges.{Ranges}
-use Rattle.weighing.specs.Weighing.{typesCounted}
+use Rattle.cursors.specs.declared.Cursor.{Cursor}
+use Rattle.cursors.specs.declared.Ranges.{Ranges}
+use Rattle.shapes.specs.Shapes.{typesCounted}
 
 -- ---- The kind of a tag: its namespace, and whether its name is void.
 

@@ -1,25 +1,23 @@
--- What a scan finds is no longer than its budget, and stands at the front of the local list.
+-- What a scan finds is no longer than its budget.
 use mathlib.Core.Path.{_≡_, refl, ap, _∙_}
 use mathlib.Core.Bool.{Bool, true, false, cond}
 use mathlib.Core.List.{List, [], _∷_}
 use Prim.Native.Nat.{ℕ, suc, _+_, _-_, _≤_}
-use native.Mathlib.Nat.{sub-zero, zero-add}
-use native.Mathlib.Numerals.{add-one}
+use native.Mathlib.Nat.{zero-add}
 use native.Mathlib.Omega.{arith}
 use lib.Dec.{ltb}
-use lib.ListN.{length, getD, take, drop, set, length-append, length-take}
-use lib.Seq.{sets, sets-eq, take-at}
-use Rattle.cells.specs.Stretches.{written, length-cells}
+use lib.ListN.{length, getD, take, drop, length-append, length-take}
+use Rattle.cells.specs.Stretches.{length-cells}
 use Rattle.names.specs.Names.{nameKey}
 use Rattle.rules.specs.Attributes.{Attribute, attributesOf}
 use Rattle.sheet.specs.Parser.{nodeCount}
 use Rattle.stack.specs.Stores.{heldKind, foundFrom}
-use Rattle.exec.specs.Cursors.{rest, ats}
+use Rattle.cursors.specs.Cursors.{rest, ats}
 use Rattle.instructions.specs.Instructions.{tagPasses, asks}
 use Rattle.exec.specs.Scans.{Sought, over, stopped, keep, seek, foundToo, foundIn, answerFrom, testsTaken, withinTests, live, tagScan, attributeScan, allPass}
 use Rattle.exec.specs.ScanLaws.{length-ats}
-use Rattle.exec.specs.declared.cursor.Cursor.{Cursor}
-use Rattle.exec.specs.declared.cursor.Ranges.{Ranges}
+use Rattle.cursors.specs.declared.Cursor.{Cursor}
+use Rattle.cursors.specs.declared.Ranges.{Ranges}
 use Rattle.exec.specs.declared.scan.Scanned.{Scanned}
 use Rattle.course.specs.Course.{isHtml, childPosition, typePosition, liveRanges, firstLive, heldCursor, begin, resumed}
 
@@ -99,16 +97,6 @@ resumed-few sheet program rows names nodes name input outlines h =
     let a = attribute-few sheet program nodes (liveRanges sheet rows) name (nameKey name) (childPosition rows) (typePosition rows names name) (heldCursor rows) (nodeCount sheet - getD rows 7 0) (length sheet) (isHtml (heldKind rows)) (attributesOf input outlines) in
     let b = length-cells nodes foundFrom (getD rows 7 0) in
     rw length-append (omega (arith, a, b, h))
-
--- ---- what was found is the front of the local list
-
-written-sets : (xs : List ℕ) (a : ℕ) (vs : List ℕ) → written xs a vs ≡ sets xs a vs
-unfolding written
-written-sets xs a [] = refl
-written-sets xs a (v ∷ vs) = rw (add-one a) (written-sets (set xs a v) (suc a) vs)
-
-pub front : (xs vs : List ℕ) (n : ℕ) → n ≡ length vs → length vs ≤ length xs → take (n - 0) (drop 0 (written xs 0 vs)) ≡ vs
-front xs vs n e h = rw (e, sub-zero (length vs), written-sets xs 0 vs, sets-eq vs xs 0 (omega arith)) (take-at vs (drop (0 + length vs) xs) (length vs) refl)
 
 pub count-is : (s : Sought) (r : Scanned) → r ≡ answerFrom 0 s → r .count ≡ length (foundIn s)
 unfolding answerFrom foundIn

@@ -12,19 +12,23 @@ use Rattle.names.specs.Bytes.{lowerOf}
 use Rattle.names.specs.Names.{voidName}
 use Rattle.rules.specs.Attributes.{goodOutlines}
 use Rattle.sheet.specs.Parser.{nodeCount}
-use Rattle.exec.specs.declared.cursor.Cursor.{Cursor}
-use Rattle.exec.specs.Cursors.{ats}
+use Rattle.cursors.specs.declared.Cursor.{Cursor}
+use Rattle.cursors.specs.Cursors.{ats}
 use Rattle.exec.specs.Scans.{Sought, over, stopped}
 use Rattle.stack.specs.Stores as stack
 use Rattle.stack.specs.Stores.{Stores, stores, openLimit, pairLimit, parentLimit, ancestorLimit, foundLimit, nameLimit, idWords, rowsSize, namesSize, idsSize, nodesSize, idsAt, rowWord, counted, pushed, poppedCount, poppedRows, poppedIds, topIds, backTo, held, released, heldName, heldFound}
-use Rattle.weighing.specs.Weighing.{madeMark, sized, headerShaped, shaped, stateRefusal, badName, tagRefusal, pairsFull, pushRefusal, attributesRefusal, endRefusal}
+use Rattle.shapes.specs.Shapes.{madeMark, sized, headerShaped, shaped, stateRefusal}
+use Rattle.weighing.specs.Weighing.{badName, tagRefusal, pairsFull, pushRefusal, attributesRefusal, endRefusal}
 use Rattle.course.specs.Course as course
 use Rattle.tags.specs.Tags as tags
-use Rattle.machine.specs.Calls as calls
-use Rattle.machine.specs.declared.Popped.{Popped}
-use Rattle.machine.specs.declared.Top.{Top}
-use Rattle.tags.specs.Tags.{Outcome, noIds, cell, accepted, whole, lowered, given}
-use Rattle.machine.specs.Calls.{Ended, topReply, flagsOf, startCall, attributesCall, popping, endCall, idSetCall}
+use Rattle.ends.specs.Ends as ends
+use Rattle.ends.specs.declared.Popped.{Popped}
+use Rattle.ends.specs.declared.Top.{Top}
+use Rattle.weighing.specs.Words.{cell, noIds}
+use Rattle.tags.specs.Tags.{Outcome, accepted, whole, lowered, given}
+use Rattle.making.specs.Making.{flagsOf}
+use Rattle.ends.specs.Ends.{Ended, topReply, popping, endCall, idSetCall}
+use Rattle.machine.specs.Calls.{startCall, attributesCall}
 use Rattle.course.specs.Course.{liveRanges, kindOf, isHtml, hasContent, heldCursor}
 use Rattle.meaning.specs.Lists.{keep, minus}
 use Rattle.meaning.specs.Document.{child, descendant}
@@ -398,14 +402,14 @@ module _ (C : Compiled) (esi : Bool) where
 
     -- ---- an end tag
     abbrev endIf : ℕ → ℕ → List ℕ → Ended
-    endIf zero n out = calls.ended (Popped.Elements n) (poppedRows (s .rows) n) (poppedIds (s .rows) (s .ids) out n)
-    endIf (suc r) n out = calls.ended (Popped.Refused (suc r)) (s .rows) out
+    endIf zero n out = ends.ended (Popped.Elements n) (poppedRows (s .rows) n) (poppedIds (s .rows) (s .ids) out n)
+    endIf (suc r) n out = ends.ended (Popped.Refused (suc r)) (s .rows) out
 
     end-is : (name out : List ℕ) → endCall sheet program s name out ≡ endIf (cond (badName name) 20 (cond (ltb (length out) (poppedCount (s .rows) (s .names) (map lowerOf name) * idWords)) 29 0)) (poppedCount (s .rows) (s .names) (map lowerOf name)) out
     unfolding endCall endRefusal popping
     end-is name out = rw (never-30 s g h, z) (go (badName name) (ltb (length out) (poppedCount (s .rows) (s .names) (map lowerOf name) * idWords)))
       where
-        go : (a b : Bool) → cond (not (eqb (cond a 20 0) 0)) (calls.ended (Popped.Refused (cond a 20 0)) (s .rows) out) (cond b (calls.ended (Popped.Refused 29) (s .rows) out) (endIf 0 (poppedCount (s .rows) (s .names) (map lowerOf name)) out)) ≡ endIf (cond a 20 (cond b 29 0)) (poppedCount (s .rows) (s .names) (map lowerOf name)) out
+        go : (a b : Bool) → cond (not (eqb (cond a 20 0) 0)) (ends.ended (Popped.Refused (cond a 20 0)) (s .rows) out) (cond b (ends.ended (Popped.Refused 29) (s .rows) out) (endIf 0 (poppedCount (s .rows) (s .names) (map lowerOf name)) out)) ≡ endIf (cond a 20 (cond b 29 0)) (poppedCount (s .rows) (s .names) (map lowerOf name)) out
         go true b = refl
         go false true = refl
         go false false = refl
@@ -484,7 +488,7 @@ module _ (C : Compiled) (esi : Bool) where
     unfolding startCall tagRefusal
     start-early m name = rw (never-30 s (f .good) (f .header), ne-eqb (hd s 4) 0 n)
 
-    end-early : (name out : List ℕ) → endCall sheet program s name out ≡ calls.ended (Popped.Refused 22) (s .rows) out
+    end-early : (name out : List ℕ) → endCall sheet program s name out ≡ ends.ended (Popped.Refused 22) (s .rows) out
     unfolding endCall endRefusal
     end-early name out = rw (never-30 s (f .good) (f .header), ne-eqb (hd s 4) 0 n)
 

@@ -13,18 +13,19 @@ use Rattle.cells.specs.Numbers.{part}
 use Rattle.names.specs.Names.{nameKey}
 use Rattle.rules.specs.Attributes.{Attribute, attributesOf}
 use Rattle.node_tests.specs.Tests.{Negatable, TagTest, readTagTest, readAttributeTest, tagTestHolds, attributeTestHolds}
-use Rattle.sheet.specs.Records as records
-use Rattle.sheet.specs.Records.{NodeRecord, recordAt, endOf, countsAt, testsAt, testsFrom}
-use Rattle.sheet.specs.Parser.{rising, nodeCount, rootCount}
+use Rattle.node_records.specs.Records as records
+use Rattle.node_records.specs.Records.{NodeRecord, recordAt, endOf, countsAt, testsAt, testsFrom}
+use Rattle.node_records.specs.Checks.{rising}
+use Rattle.sheet.specs.Parser.{nodeCount, rootCount}
 use Rattle.sheet.specs.Spelling.{Sheet}
 use Rattle.sheet.specs.SpellingLaws.{spelt-width}
-use Rattle.compiler.specs.Program.{nodeKey, words, row, rows}
-use Rattle.compiler.specs.KeyLaws.{key-skips}
+use Rattle.program.specs.Program.{nodeKey, words, row, rows}
+use Rattle.program.specs.KeyLaws.{key-skips}
 use Rattle.compiler.specs.StoreLaws.{instruction-word, same-length, layout-says, Recorded, spelt-recorded}
-use Rattle.exec.specs.Cursors as cursors
+use Rattle.cursors.specs.Cursors as cursors
 use Rattle.instructions.specs.Instructions.{rowWord, keyFits, tagTestsHold, attributeTestsHold, tagTestsPass, tagPasses, attributePasses, asks}
-use Rattle.exec.specs.Cursors.{leftIn, hangs}
-use Rattle.exec.specs.CursorLaws.{hangs-whole}
+use Rattle.cursors.specs.Cursors.{leftIn, hangs}
+use Rattle.cursors.specs.CursorLaws.{hangs-whole}
 use Rattle.instructions.specs.Instructions as instructions
 use Rattle.instructions.specs.FoundIds.{idsOfNode}
 use Rattle.meaning.specs.Lists.{every, keep, full}

@@ -8,8 +8,8 @@ use lib.ListN.{getD}
 use lib.Dec.{eqb}
 use Rattle.cells.specs.Stretches.{cellsFrom}
 use Rattle.stack.specs.Stores.{Stores, parentLimit, nameLimit, nameSize, idWords, pairAt, pairNameAt, rowWord, heldKind, heldName, heldFound}
-use Rattle.exec.specs.declared.cursor.Cursor.{Cursor}
-use Rattle.exec.specs.Cursors.{rest, ats}
+use Rattle.cursors.specs.declared.Cursor.{Cursor}
+use Rattle.cursors.specs.Cursors.{rest, ats}
 use Rattle.course.specs.Course.{liveRanges, heldCursor}
 use Rattle.meaning.specs.Elements.{Tag}
 use Rattle.meaning.specs.Machine.{Counter, Level, Item, Stack, Machine, pops}

@@ -12,13 +12,13 @@ use Rattle.sheet.specs.Parser.{nodeCount}
 use Rattle.stack.specs.Stores as stack
 use Rattle.stack.specs.Stores.{Stores, stores, openLimit, pairLimit, parentLimit, ancestorLimit, foundLimit, nameLimit, nameSize, idWords, foundFrom, rowsSize, namesSize, idsSize, nodesSize, rowAt, pairAt, nameAt, pairNameAt, idsAt, rowWord, countLimit, timesOf, counted, bearers, newAncestors, childBlock, pushed, backHeader, backTo, heldKind, heldName, heldFound, heldWords, held, released, freshWords, freshRows}
 use Rattle.stack.specs.Reads.{push-length, held-below, held-above, held-length, held-word, held-name, held-found, back-above, back-header, back-length, fresh-word, fresh-length}
-use Rattle.exec.specs.declared.cursor.Cursor.{Cursor}
-use Rattle.exec.specs.declared.cursor.Ranges.{Ranges}
-use Rattle.exec.specs.Cursors.{rangeAt, rides, later, rest, ats}
+use Rattle.cursors.specs.declared.Cursor.{Cursor}
+use Rattle.cursors.specs.declared.Ranges.{Ranges}
+use Rattle.cursors.specs.Cursors.{rangeAt, rides, later, rest, ats}
 use Rattle.instructions.specs.FoundIds.{withIdsOf}
-use Rattle.weighing.specs.Weighing.{madeMark}
+use Rattle.shapes.specs.Shapes.{madeMark}
 use Rattle.course.specs.Course.{liveRanges, heldCursor}
-use Rattle.machine.specs.Calls.{flagsOf}
+use Rattle.making.specs.Making.{flagsOf}
 use Rattle.meaning.specs.Elements.{Tag}
 use Rattle.meaning.specs.Machine.{Machine, bare, empty, accept, pops}
 use Rattle.demand.specs.Words.{two-words}

@@ -9,16 +9,16 @@ use lib.Seq.{sets}
 use lib.Dec.{ltb, leb}
 use borrow.Author.Tests.{le-ltb, ltb-false, leb-true}
 use Rattle.rules.specs.Attributes.{goodOutlines}
-use Rattle.sheet.specs.Records.{NodeRecord}
+use Rattle.node_records.specs.Records.{NodeRecord}
 use Rattle.sheet.specs.Parser.{Parsed, parseSheet, nodeCount}
 use Rattle.sheet.specs.Spelling.{Sheet}
 use Rattle.sheet.specs.SpellingLaws.{good-sheet}
-use Rattle.compiler.specs.Program.{rows, usesNthOfType}
+use Rattle.program.specs.Program.{rows, usesNthOfType}
 use Rattle.compiler.specs.Compiler.{places, compiledOf, storeOf}
 use Rattle.stack.specs.Stores.{Stores, stores, rowsSize, namesSize, idsSize, nodesSize, freshRows}
-use Rattle.weighing.specs.Weighing.{madeMark, sized}
-use Rattle.machine.specs.declared.Made.{Made}
-use Rattle.machine.specs.Calls.{Fresh, fresh, flagsOf, freshOf, freshCall}
+use Rattle.shapes.specs.Shapes.{madeMark, sized}
+use Rattle.making.specs.declared.Made.{Made}
+use Rattle.making.specs.Making.{Fresh, fresh, flagsOf, freshOf, freshCall}
 use Rattle.meaning.specs.Lists.{_∈_, here, there, Distinct}
 use Rattle.meaning.specs.Document.{start}
 use Rattle.meaning.specs.Trees.{Forest, size}

@@ -11,9 +11,9 @@ use borrow.Author.Tests.{lt-ltb, le-ltb, ne-eqb}
 use Rattle.cells.specs.Stretches.{cellsFrom, cells-cat, length-cells}
 use Rattle.names.specs.Bytes.{equalBytes}
 use Rattle.sheet.specs.Parser.{nodeCount, rootCount}
-use Rattle.exec.specs.Cursors as cursors
-use Rattle.exec.specs.Cursors.{ats, hangs, leftIn}
-use Rattle.exec.specs.CursorLaws.{ats-first}
+use Rattle.cursors.specs.Cursors as cursors
+use Rattle.cursors.specs.Cursors.{ats, hangs, leftIn}
+use Rattle.cursors.specs.CursorLaws.{ats-first}
 use Rattle.stack.specs.Stores as stack
 use Rattle.stack.specs.Stores.{Stores, parentLimit, nameSize, idWords, pairAt, rowWord, holdsName, findPair, pairOf, timesOf, childBlock, blockLength, bears, bearers, listed, newAncestors, through, poppedCount}
 use Rattle.course.specs.Course.{liveRanges, firstLive}

@@ -11,16 +11,20 @@ use Rattle.names.specs.Bytes.{lowerOf}
 use Rattle.names.specs.Names.{voidName}
 use Rattle.sheet.specs.Parser.{parseSheet}
 use Rattle.compiler.specs.Compiler.{compiledOf}
-use Rattle.compiler.specs.declared.compiler.Compiled.{Compiled}
+use Rattle.compiler.specs.declared.Compiled.{Compiled}
 use Rattle.stack.specs.Stores.{Stores, idWords, poppedCount, poppedRows, poppedIds, heldName, heldKind, released}
 use Rattle.exec.specs.Scans.{Sought, over, stopped}
-use Rattle.weighing.specs.Weighing.{esiOn, sized, stateRefusal, tagRefusal, pairsFull, pushRefusal, attributesRefusal, endRefusal}
+use Rattle.shapes.specs.Shapes.{esiOn, sized, stateRefusal}
+use Rattle.weighing.specs.Weighing.{tagRefusal, pairsFull, pushRefusal, attributesRefusal, endRefusal}
 use Rattle.course.specs.Course.{kindOf, hasContent, begin, resumed}
 use Rattle.tags.specs.declared.Answer.{Answer}
-use Rattle.tags.specs.Tags.{Outcome, outcome, noIds, reply, refusing, accepted, whole, begun, lowered, given}
-use Rattle.machine.specs.declared.Made.{Made}
-use Rattle.machine.specs.declared.Popped.{Popped}
-use Rattle.machine.specs.Calls.{Ended, ended, popping, Fresh, startCall, attributesCall, endCall, freshOf, freshCall}
+use Rattle.weighing.specs.Words.{noIds}
+use Rattle.tags.specs.Tags.{Outcome, outcome, reply, refusing, accepted, whole, begun, lowered, given}
+use Rattle.making.specs.declared.Made.{Made}
+use Rattle.ends.specs.declared.Popped.{Popped}
+use Rattle.making.specs.Making.{Fresh, freshOf, freshCall}
+use Rattle.ends.specs.Ends.{Ended, ended, popping, endCall}
+use Rattle.machine.specs.Calls.{startCall, attributesCall}
 
 -- If the answer is a refusal, the outcome is that refusal with no id, and the stores that came in; if attributes are asked for, no id goes out yet.
 abbrev pub Kept : Stores → Outcome → Type 0

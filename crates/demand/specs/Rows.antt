@@ -8,9 +8,9 @@ use lib.ListN.{length}
 use Rattle.names.specs.Names.{nameKey}
 use Rattle.rules.specs.Attributes.{attributesOf}
 use Rattle.sheet.specs.Parser.{nodeCount, rootCount}
-use Rattle.cells.specs.Ids.{idsOf}
+use Rattle.id_sets.specs.Ids.{idsOf}
 use Rattle.instructions.specs.Instructions.{rowWord, testsEnd, tagCount, attributeCount, attributeTestsHold, tagPasses, attributePasses, asks}
-use Rattle.exec.specs.Cursors.{hangs}
+use Rattle.cursors.specs.Cursors.{hangs}
 use Rattle.instructions.specs.FoundIds.{withIdsOf}
 use Rattle.meaning.specs.Lists.{sum}
 use Rattle.meaning.specs.Document.{Link, child, descendant}

@@ -11,10 +11,10 @@ use borrow.Author.Tests.{leb-true}
 use Rattle.names.specs.Names.{nameKey}
 use Rattle.rules.specs.Attributes.{attributesOf}
 use Rattle.sheet.specs.Parser.{nodeCount, rootCount}
-use Rattle.exec.specs.declared.cursor.Cursor.{Cursor}
-use Rattle.exec.specs.declared.cursor.Ranges.{Ranges}
-use Rattle.exec.specs.Cursors.{cursorOf, firstCursor, rangeAt, leftIn, ride, inRange, rides, later, rest, ats}
-use Rattle.exec.specs.CursorLaws.{Own, own-first}
+use Rattle.cursors.specs.declared.Cursor.{Cursor}
+use Rattle.cursors.specs.declared.Ranges.{Ranges}
+use Rattle.cursors.specs.Cursors.{cursorOf, firstCursor, rangeAt, leftIn, ride, inRange, rides, later, rest, ats}
+use Rattle.cursors.specs.CursorLaws.{Own, own-first}
 use Rattle.instructions.specs.Instructions.{keyFits, tagPasses, attributePasses, asks}
 use Rattle.exec.specs.Scans as scans
 use Rattle.exec.specs.Scans.{Sought, over, stopped, foundToo, seek, testsTaken, tagScan, allPass}
@@ -22,10 +22,10 @@ use Rattle.exec.specs.ScanLaws.{testsIn, length-ats, forget, seek-scan, tag-sca
 use Rattle.stack.specs.Stores as stack
 use Rattle.stack.specs.Stores.{Stores, rowWord, countLimit, oneMore, heldFound, heldName, heldKind}
 use Rattle.stack.specs.Laws.{one-more}
-use Rattle.weighing.specs.Weighing.{esiOn, typesCounted}
+use Rattle.shapes.specs.Shapes.{esiOn, typesCounted}
 use Rattle.course.specs.Course as course
 use Rattle.course.specs.Course.{liveRanges, firstLive, heldCursor, isHtml, childPosition, typePosition, begin, resumed}
-use Rattle.machine.specs.Calls.{flagsOf}
+use Rattle.making.specs.Making.{flagsOf}
 use Rattle.meaning.specs.Lists.{keep, put-if}
 use Rattle.meaning.specs.Elements.{Tag}
 use Rattle.meaning.specs.Machine.{Scan, done, stuck, found-too, visit, scan, times-of, live-at, number, number-of-name, passes, scan-if}

@@ -2,9 +2,9 @@
 use mathlib.Core.List.{List, [], _∷_}
 use Prim.Native.Nat.{ℕ}
 use lib.Dec.{ltb}
-use Rattle.cells.specs.Ids.{idsOf}
+use Rattle.id_sets.specs.Ids.{idsOf}
 use Rattle.rules.specs.Attributes.{attributesOf}
-use Rattle.sheet.specs.Records.{NodeRecord}
+use Rattle.node_records.specs.Records.{NodeRecord}
 use Rattle.sheet.specs.Meaning.{sheetTests}
 use Rattle.instructions.specs.FoundIds.{withIds}
 use Rattle.meaning.specs.Lists.{keep, gather}

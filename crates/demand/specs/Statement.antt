@@ -8,17 +8,19 @@ use Rattle.cells.specs.Stretches.{cellsFrom}
 use Rattle.names.specs.Bytes.{lowerOf}
 use Rattle.names.specs.Names.{voidName}
 use Rattle.rules.specs.Attributes.{goodOutlines}
-use Rattle.sheet.specs.Records.{NodeRecord}
+use Rattle.node_records.specs.Records.{NodeRecord}
 use Rattle.sheet.specs.Parser.{Parsed, parseSheet}
 use Rattle.compiler.specs.Compiler.{places}
 use Rattle.stack.specs.Stores.{Stores, stores, idWords}
-use Rattle.weighing.specs.Weighing.{sized}
+use Rattle.shapes.specs.Shapes.{sized}
 use Rattle.tags.specs.declared.Answer as tags
-use Rattle.machine.specs.declared.Made.{Made}
-use Rattle.machine.specs.declared.Popped.{Popped}
-use Rattle.machine.specs.declared.Top.{Top}
+use Rattle.making.specs.declared.Made.{Made}
+use Rattle.ends.specs.declared.Popped.{Popped}
+use Rattle.ends.specs.declared.Top.{Top}
 use Rattle.tags.specs.Tags.{Outcome}
-use Rattle.machine.specs.Calls.{Ended, Fresh, startCall, attributesCall, endCall, idSetCall, freshCall}
+use Rattle.making.specs.Making.{Fresh, freshCall}
+use Rattle.ends.specs.Ends.{Ended, endCall, idSetCall}
+use Rattle.machine.specs.Calls.{startCall, attributesCall}
 use Rattle.meaning.specs.Lists.{_∈_}
 use Rattle.meaning.specs.Document as document
 use Rattle.meaning.specs.Trees.{Forest, size}

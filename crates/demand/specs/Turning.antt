@@ -5,7 +5,7 @@ use mathlib.Core.List.{List}
 use Prim.Native.Nat.{ℕ, suc}
 use lib.Dec.{T}
 use lib.ListN.{length}
-use Rattle.sheet.specs.Records.{NodeRecord}
+use Rattle.node_records.specs.Records.{NodeRecord}
 use Rattle.meaning.specs.Lists.{_∈_, Pairs, no-pair, pair, full, sum}
 use Rattle.meaning.specs.Document.{Link, child, spot, before, opened, position}
 use Rattle.meaning.specs.Trees.{Forest}

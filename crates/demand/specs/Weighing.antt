@@ -9,7 +9,7 @@ use lib.ListN.{length, getD, length-map}
 use lib.Dec.{T, eqb}
 use borrow.Author.Tests.{eq-eqb, eqb-true}
 use Rattle.node_tests.specs.Tests.{readTagTest, readAttributeTest}
-use Rattle.sheet.specs.Records.{NodeRecord, recordAt, endOf, tagCount, attributeCount, testsAt, testsEnd, testsFrom}
+use Rattle.node_records.specs.Records.{NodeRecord, recordAt, endOf, tagCount, attributeCount, testsAt, testsEnd, testsFrom}
 use Rattle.sheet.specs.Spelling.{Inside, Spells, Sheet}
 use Rattle.instructions.specs.Instructions.{rowWord}
 use Rattle.instructions.specs.Instructions as instructions

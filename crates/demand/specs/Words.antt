@@ -9,9 +9,9 @@ use native.Mathlib.Nat.{zero-div}
 use borrow.Author.Tests.{eq-eqb, eqb-true, eqb-false, ltb-true, ltb-false}
 use lib.Dec.{T, eqb, ltb}
 use lib.ListN.{length, getD, length-set}
-use Rattle.cells.specs.Ids.{hasId, idsFrom, idsOf, withId}
-use Rattle.cells.specs.IdLaws as ids
-use Rattle.cells.specs.IdLaws.{member-inside, ids-rise}
+use Rattle.id_sets.specs.Ids.{hasId, idsFrom, idsOf, withId}
+use Rattle.id_sets.specs.IdLaws as ids
+use Rattle.id_sets.specs.IdLaws.{member-inside, ids-rise}
 use Rattle.instructions.specs.FoundIds.{idsOfNode, withIds, withIdsOf, listed, with-ids-law, gathered-members}
 use Rattle.meaning.specs.Lists.{_∈_, here, there, Rising, keep, gather}
 use Rattle.meaning.specs.ListLaws.{keep-mem, mem-keep, gather-mem, mem-gather}

@@ -9,11 +9,11 @@ use borrow.Author.Tests.{lt-ltb, le-ltb, le-leb, lt-leb, leb-true, eq-eqb, ne-eq
 use lib.Dec.{eqb, ltb, leb}
 use lib.ListN.{getD, take}
 use lib.Seq.{take-nil}
-use Rattle.exec.specs.declared.cursor.Cursor.{Cursor}
-use Rattle.exec.specs.declared.cursor.Ranges.{Ranges}
-use Rattle.exec.specs.declared.cursor.Jump.{Jump}
+use Rattle.cursors.specs.declared.Cursor.{Cursor}
+use Rattle.cursors.specs.declared.Ranges.{Ranges}
+use Rattle.cursors.specs.declared.Jump.{Jump}
 use Rattle.exec.specs.declared.scan.Candidate.{Candidate}
-use Rattle.exec.specs.Cursors.{cursorOf, afterCursor, rangeAt, jumpOf, leftIn, ride, rides, later, rest}
+use Rattle.cursors.specs.Cursors.{cursorOf, afterCursor, rangeAt, jumpOf, leftIn, ride, rides, later, rest}
 use Rattle.instructions.specs.Instructions.{keyFits}
 use Rattle.exec.specs.Searching.{jumps, firstKeyed, affordable, fromKeyed, Reached}
 

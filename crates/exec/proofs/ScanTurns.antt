@@ -8,10 +8,10 @@ use native.Mathlib.Omega.{arith}
 use lib.ListN.{length, set}
 use Rattle.cells.specs.Stretches.{written}
 use Rattle.rules.specs.Attributes.{Attribute}
-use Rattle.exec.specs.declared.cursor.Cursor.{Cursor}
-use Rattle.exec.specs.declared.cursor.Ranges.{Ranges}
+use Rattle.cursors.specs.declared.Cursor.{Cursor}
+use Rattle.cursors.specs.declared.Ranges.{Ranges}
 use Rattle.exec.specs.declared.scan.Live.{Live}
-use Rattle.exec.specs.Cursors.{cursorOf, afterCursor, ats}
+use Rattle.cursors.specs.Cursors.{cursorOf, afterCursor, ats}
 use Rattle.instructions.specs.Instructions.{keyFits, tagTestsPass, tagPasses, attributePasses, asks}
 use Rattle.exec.specs.Scans.{keep, Sought, over, stopped, foundToo, seek, foundIn, answerFrom, live, tagScan, allPass, attributeScan}
 use Rattle.exec.specs.Searching.{fromKeyed, Within}

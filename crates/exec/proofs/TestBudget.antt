@@ -8,12 +8,12 @@ use native.Mathlib.Nat.{sub-zero}
 use borrow.Author.Tests.{lt-ltb, le-ltb}
 use lib.Dec.{ltb}
 use lib.ListN.{length, take}
-use Rattle.exec.specs.declared.cursor.Cursor.{Cursor}
-use Rattle.exec.specs.declared.cursor.Ranges.{Ranges}
+use Rattle.cursors.specs.declared.Cursor.{Cursor}
+use Rattle.cursors.specs.declared.Ranges.{Ranges}
 use Rattle.exec.specs.declared.scan.Candidate.{Candidate}
 use Rattle.exec.specs.declared.scan.Live.{Live}
 use Rattle.instructions.specs.Instructions.{rowWord, keyFits, testsEnd, tagCount, attributeCount}
-use Rattle.exec.specs.Cursors.{afterCursor, rest}
+use Rattle.cursors.specs.Cursors.{afterCursor, rest}
 use Rattle.exec.specs.Scans.{testsTaken, withinTests, live}
 use Rattle.exec.specs.Searching.{fromKeyed, Reached, Within}
 

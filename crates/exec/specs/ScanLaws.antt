@@ -8,10 +8,10 @@ use borrow.Author.Tests.{eqb-true, not-false, le-ltb}
 use lib.ListN.{length}
 use lib.Seq.{take-all}
 use Rattle.rules.specs.Attributes.{Attribute}
-use Rattle.exec.specs.declared.cursor.Cursor.{Cursor}
-use Rattle.exec.specs.declared.cursor.Ranges.{Ranges}
-use Rattle.exec.specs.Cursors.{rest, ats}
-use Rattle.exec.specs.CursorLaws.{Own}
+use Rattle.cursors.specs.declared.Cursor.{Cursor}
+use Rattle.cursors.specs.declared.Ranges.{Ranges}
+use Rattle.cursors.specs.Cursors.{rest, ats}
+use Rattle.cursors.specs.CursorLaws.{Own}
 use Rattle.instructions.specs.Instructions.{attributeCount, attributeTestsHold, tagPasses, attributePasses, asks}
 use Rattle.exec.specs.Scans.{keep, Sought, over, stopped, foundToo, seek, testsTaken, withinTests, live, tagScan, allPass, attributeScan}
 

@@ -5,11 +5,11 @@ use Prim.Native.Nat.{ℕ, _+_, _-_}
 use lib.Dec.{ltb}
 use lib.ListN.{length, take}
 use Rattle.rules.specs.Attributes.{Attribute}
-use Rattle.exec.specs.declared.cursor.Cursor.{Cursor}
-use Rattle.exec.specs.declared.cursor.Ranges.{Ranges}
+use Rattle.cursors.specs.declared.Cursor.{Cursor}
+use Rattle.cursors.specs.declared.Ranges.{Ranges}
 use Rattle.exec.specs.declared.scan.Scanned.{Scanned}
 use Rattle.instructions.specs.Instructions.{rowWord, keyFits, testsEnd, tagCount, attributeCount, tagPasses, attributePasses, asks}
-use Rattle.exec.specs.Cursors.{cursorOf, rest, ats}
+use Rattle.cursors.specs.Cursors.{cursorOf, rest, ats}
 
 -- The members that pass a test, in their order.
 unfoldable pub keep : (ℕ → Bool) → List ℕ → List ℕ

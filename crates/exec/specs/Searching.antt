@@ -5,11 +5,11 @@ use mathlib.Core.List.{List, [], _∷_}
 use Prim.Native.Nat.{ℕ, zero, suc, _+_, _-_, _<_, _^_}
 use lib.Dec.{eqb, ltb}
 use lib.ListN.{take}
-use Rattle.exec.specs.declared.cursor.Cursor.{Cursor}
-use Rattle.exec.specs.declared.cursor.Ranges.{Ranges}
+use Rattle.cursors.specs.declared.Cursor.{Cursor}
+use Rattle.cursors.specs.declared.Ranges.{Ranges}
 use Rattle.exec.specs.declared.scan.Candidate.{Candidate}
 use Rattle.exec.specs.declared.scan.Live.{Live}
-use Rattle.exec.specs.Cursors.{afterCursor, leftIn, rest}
+use Rattle.cursors.specs.Cursors.{afterCursor, leftIn, rest}
 use Rattle.instructions.specs.Instructions.{keyFits}
 use Rattle.exec.specs.Scans.{live}
 

@@ -1,9 +1,9 @@
 //! Going over the live instructions for a tag: by the tag alone until one asks for attributes, then with them (mod.rs).
-use crate::cursor::Cursor;
-use crate::cursor::Jump;
-use crate::cursor::Ranges;
 use cells::get32;
 use cells::put16;
+use cursors::Cursor;
+use cursors::Jump;
+use cursors::Ranges;
 use instructions::instruction::asks_attributes;
 use instructions::instruction::attributes_pass;
 use instructions::instruction::tag_tests_pass;

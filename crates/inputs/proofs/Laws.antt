@@ -5,9 +5,10 @@ use mathlib.Core.Path.{_≡_}
 use Prim.Native.Nat.{ℕ}
 use lib.ListN.{length}
 use Rattle.cells.specs.Numbers.{part}
-use Rattle.lines.specs.Lines.{Wrote, refusedLine, sheetLine}
-use Rattle.machine.specs.Calls.{fresh, freshCall}
-use Rattle.machine.specs.declared.Made.{Made}
+use Rattle.text.specs.Text.{Wrote}
+use Rattle.lines.specs.Lines.{refusedLine, sheetLine}
+use Rattle.making.specs.Making.{fresh, freshCall}
+use Rattle.making.specs.declared.Made.{Made}
 use Rattle.records.specs.Sheets.{sheetEnd}
 use Rattle.stack.specs.Stores.{Stores, stores}
 use Rattle.trace.specs.Run.{ran, feedOf}

@@ -6,8 +6,8 @@ use lib.ListN.{length}
 use Rattle.cells.specs.Numbers.{part}
 use Rattle.cells.specs.Stretches.{written}
 use Rattle.lines.specs.Lines.{refusedLine, sheetLine}
-use Rattle.machine.specs.Calls.{freshCall}
-use Rattle.machine.specs.declared.Made.{Made}
+use Rattle.making.specs.Making.{freshCall}
+use Rattle.making.specs.declared.Made.{Made}
 use Rattle.records.specs.Sheets.{sheetEnd}
 use Rattle.stack.specs.Stores.{Stores, stores}
 use Rattle.trace.specs.Run.{feedOf}

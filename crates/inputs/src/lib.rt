@@ -1,8 +1,8 @@
 //! A whole input at once (01, section 8): its sheet, then its trace.
 use lines::put_refused;
 use lines::put_sheet_refused;
-use machine::Made;
-use machine::fresh_machine;
+use making::Made;
+use making::fresh_machine;
 use records::sheet_end;
 use trace::feed;
 ghost use mathlib.Core.Path.{_≡_};

@@ -6,7 +6,7 @@ use native.Mathlib.Numerals.{add-one}
 use lib.ListN.{length, getD, drop, drop-of-length-le}
 use lib.Seq.{drop-cons}
 use Rattle.cells.specs.Numbers.{part}
-use Rattle.cells.specs.Ids.{withId}
+use Rattle.id_sets.specs.Ids.{withId}
 use Rattle.instructions.specs.FoundIds.{idsOfNode, withIds, withIdsOf}
 
 module _ (words ids : List ℕ) (i : ℕ) where

@@ -9,8 +9,8 @@ use lib.Dec.{eqb, ltb}
 use lib.ListN.{length, getD, length-set}
 use lib.Seq.{set-out}
 use Rattle.cells.specs.Numbers.{part}
-use Rattle.cells.specs.Ids.{hasId, withId}
-use Rattle.cells.specs.IdLaws.{with-law}
+use Rattle.id_sets.specs.Ids.{hasId, withId}
+use Rattle.id_sets.specs.IdLaws.{with-law}
 
 -- The ids that an instruction's record lists: its row says where the record stands; after the length, a number of ids and the ids.
 unfoldable pub idsOfNode : List ℕ → List ℕ → ℕ → List ℕ

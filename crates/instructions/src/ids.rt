@@ -2,8 +2,8 @@
 use cells::at8;
 use cells::at16;
 use cells::at32;
-use cells::ids::add_id;
 use cells::part_of;
+use id_sets::add_id;
 ghost use mathlib.Core.Path.{_≡_};
 ghost use Rattle.instructions.specs.FoundIds.{withIds, withIdsOf};
 

@@ -1,53 +1,63 @@
-//! The calls (mod.rs): fresh, start tag, attributes, end tag, id set asked. Any bytes are answered or refused by a number of 01; a refused call changes nothing.
-use compiler::compiler::Compiled;
-use compiler::compiler::compile;
+//! The calls about a tag that begins (mod.rs): start tag, attributes. Any bytes are answered or refused by a number of 01; a refused call changes nothing.
+use cells::get32;
+use course::begin_scan;
+use course::has_content;
 use course::kind_of;
-use items::count_popped;
-use items::pop_items;
-use items::top_ids;
+use course::resume_scan;
 use names::is_void;
-use stack::waiting::fresh_rows;
-use stack::waiting::held_name;
+use shapes::is_esi_on;
+use shapes::state_refusal;
 use tags::Reply;
-use tags::attributes_named;
-use tags::cell_of;
+use tags::finish_held;
 use tags::refused;
-use tags::start_lowered;
+use tags::start_found;
+use waiting::held_name;
+use weighing::are_pairs_full;
 use weighing::attributes_refusal;
-use weighing::end_refusal;
-use weighing::is_esi_on;
-use weighing::is_sized;
 use weighing::lower_into;
-use weighing::state_refusal;
 use weighing::tag_refusal;
 ghost use mathlib.Core.Path.{_≡_};
-ghost use Rattle.stack.specs.Stores.{stores, poppedCount};
-ghost use Rattle.tags.specs.Tags.{outcome};
-ghost use Rattle.machine.specs.Calls.{startCall, attributesCall, ended, popping, endCall, idSetCall, flagsOf, fresh, freshCall};
+ghost use Prim.Native.Nat.{_≤_};
+ghost use lib.ListN.{length, getD};
+ghost use Rattle.sheet.specs.Parser.{nodeCount};
+ghost use Rattle.stack.specs.Stores.{stores, opens, parentsTop, ancestorsTop};
+ghost use Rattle.tags.specs.Tags.{outcome, lowered, given};
+ghost use Rattle.machine.specs.Calls.{startCall, attributesCall};
 
-/// Made; refused for its sheet, with the place; or 31.
-pub enum Made {
-    Made,
-    Sheet(u8, usize),
-    Refused(u32),
-}
-
-/// How many elements an end tag popped, or a refusal's number.
-pub enum Popped {
-    Elements(usize),
-    Refused(u32),
-}
-
-/// The top open element's ids are beside the answer; nothing is open; or a refusal's number.
-pub enum Top {
-    Ids,
-    NothingOpen,
-    Refused(u32),
-}
-
-pub struct TopReply {
-    pub top: Top,
-    pub ids: [u64; 2],
+// A start tag by its lower-cased name and its kind.
+fn start_lowered(
+    sheet: &[u8],
+    program: &[u32],
+    rows: &mut [u32],
+    names: &mut [u8],
+    ids: &mut [u64],
+    nodes: &mut [u16],
+    name: &[u8],
+    kind: u32,
+) -> Reply
+    requires { ⌜ (opens (now rows) ≤ 256) × (parentsTop (now rows) ≤ 4096) × (ancestorsTop (now rows) ≤ 1024) × (length (now name) ≤ 63) × (nodeCount (now sheet) ≤ 1024) ⌝ }
+    ensures { λ r. ⌜ outcome r (stores (now (rows .exit)) (now (names .exit)) (now (ids .exit)) (now (nodes .exit))) ≡ lowered (now (sheet .entry)) (now (program .entry)) (stores (now (rows .entry)) (now (names .entry)) (now (ids .entry)) (now (nodes .entry))) (now (name .entry)) kind ⌝ }
+{
+    if are_pairs_full(rows, names, name) {
+        return refused(26);
+    }
+    let mut found = [0; 1024];
+    let scanned = begin_scan(sheet, program, rows, names, nodes, name, kind, &mut found);
+    let n = scanned.count;
+    let cursor = scanned.cursor;
+    start_found(
+        sheet,
+        program,
+        rows,
+        names,
+        ids,
+        nodes,
+        name,
+        kind,
+        &found[0..n],
+        scanned.stuck,
+        cursor,
+    )
 }
 
 /// A start tag, by its namespace (0 HTML, 1 SVG, 2 MathML) and its name.
@@ -76,6 +86,48 @@ pub fn start(
     let n = name.len();
     let kind = kind_of(namespace, is_void(name, is_esi_on(rows)));
     start_lowered(sheet, program, rows, names, ids, nodes, &low[0..n], kind)
+}
+
+// The attributes of the waiting tag, whose name is at hand.
+fn attributes_named(
+    sheet: &[u8],
+    program: &[u32],
+    rows: &mut [u32],
+    names: &mut [u8],
+    ids: &mut [u64],
+    nodes: &mut [u16],
+    name: &[u8],
+    self_closing: bool,
+    input: &[u8],
+    outlines: &[u32],
+) -> Reply
+    requires { ⌜ (opens (now rows) ≤ 256) × (parentsTop (now rows) ≤ 4096) × (ancestorsTop (now rows) ≤ 1024) × (length (now name) ≤ 63) × (getD (now rows) 7 0 ≤ nodeCount (now sheet)) × (nodeCount (now sheet) ≤ 1024) ⌝ }
+    ensures { λ r. ⌜ outcome r (stores (now (rows .exit)) (now (names .exit)) (now (ids .exit)) (now (nodes .exit))) ≡ given (now (sheet .entry)) (now (program .entry)) (stores (now (rows .entry)) (now (names .entry)) (now (ids .entry)) (now (nodes .entry))) (now (name .entry)) «self_closing» (now (input .entry)) (now (outlines .entry)) ⌝ }
+{
+    let mut found = [0; 1024];
+    let n = resume_scan(
+        sheet,
+        program,
+        rows,
+        names,
+        nodes,
+        name,
+        input,
+        outlines,
+        &mut found,
+    );
+    let content = has_content(get32(rows, 6), self_closing);
+    finish_held(
+        sheet,
+        program,
+        rows,
+        names,
+        ids,
+        nodes,
+        name,
+        content,
+        &found[0..n],
+    )
 }
 
 /// The attributes of the tag that waits: its input and outlines in fours (name start, name end, value start, value end).
@@ -114,115 +166,4 @@ pub fn attributes(
         input,
         outlines,
     )
-}
-
-// The pop of an end tag whose lower-cased name is at hand.
-fn end_lowered(rows: &mut [u32], names: &[u8], ids: &[u64], name: &[u8], out: &mut [u64]) -> Popped
-    ensures { λ r. ⌜ ended r (now (rows .exit)) (now (out .exit)) ≡ popping (now (rows .entry)) (now (ids .entry)) (now (out .entry)) (poppedCount (now (rows .entry)) (now (names .entry)) (now (name .entry))) ⌝ }
-{
-    let n = count_popped(rows, names, name);
-    if out.len() / 2 < n {
-        return Popped::Refused(29);
-    }
-    pop_items(rows, ids, n, out);
-    Popped::Elements(n)
-}
-
-/// An end tag. The ids of the popped go to `out` in opening order, two words each; words past them stay.
-pub fn end(
-    sheet: &[u8],
-    program: &[u32],
-    rows: &mut [u32],
-    names: &[u8],
-    ids: &[u64],
-    nodes: &[u16],
-    name: &[u8],
-    out: &mut [u64],
-) -> Popped
-    ensures { λ r. ⌜ ended r (now (rows .exit)) (now (out .exit)) ≡ endCall (now (sheet .entry)) (now (program .entry)) (stores (now (rows .entry)) (now (names .entry)) (now (ids .entry)) (now (nodes .entry))) (now (name .entry)) (now (out .entry)) ⌝ }
-{
-    let state = state_refusal(sheet, program, rows, names, ids, nodes);
-    if state != 0 {
-        return Popped::Refused(state);
-    }
-    let tag = end_refusal(rows, name);
-    if tag != 0 {
-        return Popped::Refused(tag);
-    }
-    let mut low = [0; 64];
-    lower_into(name, &mut low);
-    let n = name.len();
-    end_lowered(rows, names, ids, &low[0..n], out)
-}
-
-/// The id set of the top open element, never of the waiting tag; or that nothing is open.
-pub fn id_set(
-    sheet: &[u8],
-    program: &[u32],
-    rows: &[u32],
-    names: &[u8],
-    ids: &[u64],
-    nodes: &[u16],
-) -> TopReply
-    ensures { λ r. ⌜ r ≡ idSetCall (now (sheet .entry)) (now (program .entry)) (stores (now (rows .entry)) (now (names .entry)) (now (ids .entry)) (now (nodes .entry))) ⌝ }
-{
-    let mut words = [0, 0];
-    let state = state_refusal(sheet, program, rows, names, ids, nodes);
-    if state != 0 {
-        return TopReply {
-            top: Top::Refused(state),
-            ids: words,
-        };
-    }
-    if top_ids(rows, ids, &mut words) {
-        return TopReply {
-            top: Top::Ids,
-            ids: words,
-        };
-    }
-    TopReply {
-        top: Top::NothingOpen,
-        ids: words,
-    }
-}
-
-fn flags_of(esi: bool, types: bool) -> u32
-    ensures { λ r. ⌜ r ≡ flagsOf esi types ⌝ }
-{
-    if esi {
-        if types {
-            return 3;
-        }
-        return 1;
-    }
-    if types {
-        return 2;
-    }
-    0
-}
-
-/// Makes a machine: checks and compiles the sheet, fixes ESI, whatever the stores held.
-pub fn fresh_machine(
-    sheet: &[u8],
-    esi: bool,
-    program: &mut [u32],
-    rows: &mut [u32],
-    names: &[u8],
-    ids: &[u64],
-    nodes: &[u16],
-) -> Made
-    ensures { λ r. ⌜ fresh r (now (program .exit)) (now (rows .exit)) ≡ freshCall (now (sheet .entry)) esi (now (program .entry)) (stores (now (rows .entry)) (now (names .entry)) (now (ids .entry)) (now (nodes .entry))) ⌝ }
-{
-    if !is_sized(rows, names, ids, nodes) {
-        return Made::Refused(31);
-    }
-    match compile(sheet, program) {
-        Compiled::Refused(number, place) => Made::Sheet(number, place),
-        Compiled::Made(types) => {
-            let length = cell_of(sheet.len());
-            let flags = flags_of(esi, types);
-            fresh_rows(rows, 1383429737, length, flags);
-            Made::Made
-        }
-    }
 }

@@ -9,7 +9,7 @@ use mir.Syntax.{w32}
 use mir.Val.{toZ, ofZ}
 use mir.ValLaws.{toZ-ofZ}
 use Rattle.cells.specs.Numbers.{i32At}
-use Rattle.rules.specs.Nth.{nthHolds}
+use Rattle.nth.specs.Nth.{nthHolds}
 
 pub nth-read : (body : List ℕ) (step offset : ℤ) (index : ℕ) (r : Bool) → mag step < 2147483648 → mag offset < 2147483648 → step ≡ i32At body 0 → offset ≡ i32At body 4
     → r ≡ nthHolds (toZ w32 (ofZ w32 step)) (toZ w32 (ofZ w32 offset)) (pos index) → r ≡ nthHolds (i32At body 0) (i32At body 4) (pos index)

@@ -3,9 +3,9 @@ use mathlib.Core.Path.{_≡_, refl}
 use mathlib.Core.Bool.{Bool, true, false}
 use mathlib.Core.List.{List, [], _∷_}
 use lib.IntN.{pos, negsuc}
-use Rattle.rules.specs.Nth.{nthHolds}
+use Rattle.nth.specs.Nth.{nthHolds}
 use Rattle.names.specs.Bytes.{sameBytes}
-use Rattle.rules.specs.Operators.{emptyBytes, beginsWith, prefixHolds, suffixHolds, dashHolds, containsBytes, substringHolds, parts, split, somePart, includesHolds}
+use Rattle.operators.specs.Operators.{emptyBytes, beginsWith, prefixHolds, suffixHolds, dashHolds, containsBytes, substringHolds, parts, split, somePart, includesHolds}
 use Rattle.node_tests.specs.Tests.{ignoresCase}
 
 unfoldable pub computed : List Bool

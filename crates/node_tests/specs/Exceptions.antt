@@ -9,16 +9,17 @@ use lib.Dec.{T}
 use lib.IntN.{ℤ, pos}
 use Rattle.names.specs.Bytes.{fold, equalBytes}
 use Rattle.names.specs.BytesLaws.{fold-false, equal→eq, equal-refl}
-use Rattle.rules.specs.Nth.{Nth}
-use Rattle.rules.specs.NthLaws.{nth-law}
+use Rattle.nth.specs.Nth.{Nth}
+use Rattle.nth.specs.NthLaws.{nth-law}
 use Rattle.names.specs.NameLaws.{fold-twice, name-law}
 use Rattle.rules.specs.Attributes.{Attribute, lookup}
 use Rattle.rules.specs.AttributeLaws.{First, lookup-law, there-law}
-use Rattle.rules.specs.Operators.{operatorHolds, valueHolds}
-use Rattle.rules.specs.OperatorLaws.{equal-law, includes-law}
+use Rattle.operators.specs.Operators.{operatorHolds, valueHolds}
+use Rattle.operators.specs.OperatorLaws.{equal-law, includes-law}
 use Rattle.node_tests.specs.Tests.{localName, nthChild, nthOfType, idIs, hasClass, exists, compares, idName, className, ignoresCase, tagHolds, attributeHolds, opposite}
-use Rattle.rules.specs.Standard.{Equal, Part, Includes, HasAttribute, TypeSelector}
-use Rattle.rules.specs.declared.attribute_matcher.Operator.{Operator}
+use Rattle.operators.specs.Standard.{Equal, Part, Includes}
+use Rattle.rules.specs.Standard.{HasAttribute, TypeSelector}
+use Rattle.operators.specs.declared.Operator.{Operator}
 
 -- ---- tag tests
 

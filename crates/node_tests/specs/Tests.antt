@@ -8,11 +8,11 @@ use lib.ListN.{length, getD}
 use Rattle.cells.specs.Numbers.{part, i32At}
 use Rattle.names.specs.Bytes.{fold}
 use Rattle.names.specs.Names.{sameName}
-use Rattle.rules.specs.Nth.{nthHolds}
+use Rattle.nth.specs.Nth.{nthHolds}
 use Rattle.rules.specs.Attributes.{Attribute, lookup, isThere}
-use Rattle.rules.specs.Operators.{valueHolds}
-use Rattle.rules.specs.declared.attribute_matcher.Operator.{Operator}
-use Rattle.rules.specs.declared.attribute_matcher.Operator.the-variants.{Equal, Includes, Dash, Prefix, Suffix, Substring}
+use Rattle.operators.specs.Operators.{valueHolds}
+use Rattle.operators.specs.declared.Operator.{Operator}
+use Rattle.operators.specs.declared.Operator.the-variants.{Equal, Includes, Dash, Prefix, Suffix, Substring}
 
 -- Tests of a tag: its name and its positions among its siblings.
 pub data TagTest : Type 0 where

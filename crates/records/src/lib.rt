@@ -1,35 +1,22 @@
 //! Records of a trace read from bytes (01, section 8). Any bytes are answered.
+use attribute_records::Record;
+use attribute_records::attributes_of;
 use cells::at8;
 use cells::get8;
 use cells::numbers::u16_at;
 use cells::numbers::u32_at;
-use cells::put32;
 ghost use mathlib.Core.Path.{_≡_};
-ghost use Prim.Native.Nat.{_+_, _-_, _≤_, _<_};
+ghost use Prim.Native.Nat.{_-_, _≤_};
 ghost use lib.ListN.{length};
 ghost use Rattle.cells.specs.Stretches.{cellsFrom, written};
-ghost use Rattle.records.specs.Records.{recordEnd, startOf, read, readAttribute, attributesOf, recordOf, stepped, Fits};
+ghost use Rattle.attribute_records.specs.AttributeRecords.{read, Fits};
+ghost use Rattle.records.specs.Records.{recordEnd, startOf, recordOf};
 ghost use Rattle.records.specs.Sheets.{sheetLength, sheetEnd};
 
 // Where a record ends, if all of it is there.
 pub enum Cut {
     Whole(usize),
     Short,
-}
-
-// What a record says. A start tag has its namespace, and its name from byte 2 of the body on; an end tag has its name from byte 1 on;
-// attributes have the self-closing mark and how many numbers their outlines are.
-pub enum Record {
-    Start(u32),
-    Attributes(bool, usize),
-    End,
-    Faulty,
-}
-
-// Where the next attribute starts.
-pub enum Step {
-    Next(usize),
-    Faulty,
 }
 
 // The record at a place of a block: two bytes of length, then so many bytes.
@@ -71,60 +58,6 @@ fn start_of(body: &[u8]) -> Record
         return Record::Faulty;
     }
     Record::Start(get8(body, 1) as u32)
-}
-
-// The attribute at a place: its outline goes to the outlines from `slot` on.
-fn read_attribute(body: &[u8], outlines: &mut [u32], slot: usize, at: usize) -> Step
-    requires { ⌜ (length (now body) ≤ 65535) × (slot ≤ 65536) ⌝ }
-    ensures { λ r. ⌜ stepped r (now (outlines .exit)) ≡ readAttribute (now (body .entry)) slot at (now (outlines .entry)) ⌝ }
-{
-    if body.len() <= at {
-        return Step::Faulty;
-    }
-    let name = at + 1;
-    let name_end = name + at8(body, at);
-    let value = name_end + 2;
-    let value_end = value + u16_at(body, name_end);
-    if body.len() < value_end {
-        return Step::Faulty;
-    }
-    put32(outlines, slot, name as u32);
-    put32(outlines, slot + 1, name_end as u32);
-    put32(outlines, slot + 2, value as u32);
-    put32(outlines, slot + 3, value_end as u32);
-    Step::Next(value_end)
-}
-
-fn attributes_of(body: &[u8], outlines: &mut [u32]) -> Record
-    ensures { λ r. ⌜ read r (now (outlines .exit)) ≡ attributesOf (now (body .entry)) (now (outlines .entry)) ⌝ }
-    ensures { λ r. ⌜ Fits r ⌝ }
-{
-    if 65535 < body.len() {
-        return Record::Faulty;
-    }
-    if body.len() < 3 {
-        return Record::Faulty;
-    }
-    let mark = at8(body, 1);
-    if 1 < mark {
-        return Record::Faulty;
-    }
-    let mut left = at8(body, 2);
-    let mut at = 3;
-    let mut slot = 0;
-    while 0 < left {
-        let step = read_attribute(body, outlines, slot, at);
-        let Step::Next(next) = step else {
-            return Record::Faulty;
-        };
-        at = next;
-        slot += 4;
-        left -= 1;
-    }
-    if at != body.len() {
-        return Record::Faulty;
-    }
-    Record::Attributes(mark == 1, slot)
 }
 
 // What a body says. The outlines are places in the body: name start, name end, value start, value end of each attribute.

@@ -1,43 +1,16 @@
--- Each way out of a call and its line.
-use mathlib.Core.Bool.{Bool}
+-- A call and its line.
 use mathlib.Core.List.{List}
 use mathlib.Core.Path.{_≡_}
 use Prim.Native.Nat.{ℕ}
-use Rattle.lines.specs.Lines.{Wrote, matchLine, attrsLine, popLine, refusedLine}
+use Rattle.text.specs.Text.{Wrote}
 use Rattle.tags.specs.Tags.{Outcome, outcome}
-use Rattle.machine.specs.Calls.{ended, endCall}
-use Rattle.tags.specs.declared.Answer.{Answer}
-use Rattle.machine.specs.declared.Popped.{Popped}
+use Rattle.ends.specs.Ends.{ended, endCall}
+use Rattle.ends.specs.declared.Popped.{Popped}
 use Rattle.tags.specs.declared.Reply.{Reply}
 use Rattle.stack.specs.Stores.{Stores, stores}
-use Rattle.replies.specs.Replies.{answerLine, replyLine, poppedLine, spoken, endTurn, poppedRoom, answered, saying}
+use Rattle.reply_lines.specs.ReplyLines.{replyLine, poppedLine}
+use Rattle.replies.specs.Replies.{spoken, endTurn, poppedRoom, answered, saying}
 use Rattle.replies.specs.declared.Said.{Said}
-
--- ---- the line of an answer
-
-module _ (a : Answer) (ids o o′ : List ℕ) (at r : ℕ) where
-  pub reply-match : (content : Bool) → a ≡ Answer.Match content → Wrote o at (matchLine ids content) r o′ → Wrote o at (answerLine a ids) r o′
-  unfolding answerLine
-  reply-match content e w = rw e w
-
-  pub reply-attributes : a ≡ Answer.Attributes → Wrote o at attrsLine r o′ → Wrote o at (answerLine a ids) r o′
-  unfolding answerLine
-  reply-attributes e w = rw e w
-
-  pub reply-refused : (n : ℕ) → a ≡ Answer.Refused n → Wrote o at (refusedLine n) r o′ → Wrote o at (answerLine a ids) r o′
-  unfolding answerLine
-  reply-refused n e w = rw e w
-
-module _ (p : Popped) (o o′ : List ℕ) (at r : ℕ) where
-  pub popped-elements : (n : ℕ) → p ≡ Popped.Elements n → Wrote o at (popLine n) r o′ → Wrote o at (poppedLine p) r o′
-  unfolding poppedLine
-  popped-elements n e w = rw e w
-
-  pub popped-refused : (n : ℕ) → p ≡ Popped.Refused n → Wrote o at (refusedLine n) r o′ → Wrote o at (poppedLine p) r o′
-  unfolding poppedLine
-  popped-refused n e w = rw e w
-
--- ---- a call and its line
 
 pub said-line : (o : Outcome) (rep : Reply) (s′ : Stores) (out out′ : List ℕ) (at r : ℕ) → outcome rep s′ ≡ o → Wrote out at (replyLine rep) r out′ → answered (Said.Line r) out′ s′ ≡ saying (spoken o) out at
 unfolding saying spoken

@@ -4,28 +4,12 @@ use mathlib.Core.List.{List}
 use Prim.Native.Nat.{ℕ, _+_, _≤_}
 use lib.ListN.{length, replicate}
 use Rattle.cells.specs.Stretches.{written}
-use Rattle.lines.specs.Lines.{matchLine, attrsLine, popLine, refusedLine}
 use Rattle.tags.specs.Tags.{Outcome}
-use Rattle.machine.specs.Calls.{Ended, startCall, attributesCall, endCall}
-use Rattle.tags.specs.declared.Answer.{Answer}
-use Rattle.machine.specs.declared.Popped.{Popped}
-use Rattle.tags.specs.declared.Reply.{Reply}
+use Rattle.ends.specs.Ends.{Ended, endCall}
+use Rattle.machine.specs.Calls.{startCall, attributesCall}
 use Rattle.stack.specs.Stores.{Stores, stores}
+use Rattle.reply_lines.specs.ReplyLines.{replyLine, poppedLine}
 use Rattle.replies.specs.declared.Said.{Said}
-
--- The line of an answer to a start tag or to attributes.
-unfoldable pub answerLine : Answer → (ids : List ℕ) → List ℕ
-answerLine (Answer.Match content) ids = matchLine ids content
-answerLine Answer.Attributes ids = attrsLine
-answerLine (Answer.Refused n) ids = refusedLine n
-
-abbrev pub replyLine : Reply → List ℕ
-replyLine r = answerLine (r .answer) (r .ids)
-
--- The line of an answer to an end tag.
-unfoldable pub poppedLine : Popped → List ℕ
-poppedLine (Popped.Elements n) = popLine n
-poppedLine (Popped.Refused n) = refusedLine n
 
 -- What a record does: a line and the stores after it; or it is faulty, and they stay.
 pub data Turn : Type 0 where

@@ -1,46 +1,15 @@
 //! A call of the machine and the line that answers it.
-use lines::put_attrs;
-use lines::put_match;
-use lines::put_pop;
-use lines::put_refused;
-use machine::Popped;
-use tags::Answer;
-use tags::Reply;
+use reply_lines::put_popped;
+use reply_lines::put_reply;
 ghost use mathlib.Core.Path.{_≡_};
 ghost use Prim.Native.Nat.{_+_, _≤_};
-ghost use Rattle.lines.specs.Lines.{Wrote};
 ghost use Rattle.stack.specs.Stores.{stores};
-ghost use Rattle.replies.specs.Replies.{replyLine, poppedLine, answered, startTurn, attributesTurn, endTurn, poppedRoom, saying};
+ghost use Rattle.replies.specs.Replies.{answered, startTurn, attributesTurn, endTurn, poppedRoom, saying};
 
 // Where the line ends, or that the record is faulty.
 pub enum Said {
     Line(usize),
     Faulty,
-}
-
-fn put_reply(out: &mut [u8], at: usize, reply: Reply) -> usize
-    requires { ⌜ at ≤ 4294967296 ⌝ }
-    ensures { λ r. ⌜ Wrote (now (out .entry)) at (replyLine reply) r (now (out .exit)) ⌝ }
-    ensures { λ r. ⌜ r ≤ at + 4096 ⌝ }
-{
-    let answer = reply.answer;
-    let ids = reply.ids;
-    match answer {
-        Answer::Match(content) => put_match(out, at, &ids, content),
-        Answer::Attributes => put_attrs(out, at),
-        Answer::Refused(n) => put_refused(out, at, n),
-    }
-}
-
-pub fn put_popped(out: &mut [u8], at: usize, popped: Popped) -> usize
-    requires { ⌜ at ≤ 4294967296 ⌝ }
-    ensures { λ r. ⌜ Wrote (now (out .entry)) at (poppedLine popped) r (now (out .exit)) ⌝ }
-    ensures { λ r. ⌜ r ≤ at + 4096 ⌝ }
-{
-    match popped {
-        Popped::Elements(n) => put_pop(out, at, n),
-        Popped::Refused(n) => put_refused(out, at, n),
-    }
 }
 
 pub fn answer_start(
@@ -117,6 +86,6 @@ pub fn answer_end(
     ensures { λ r. ⌜ r ≤ at + 4096 ⌝ }
 {
     let mut popped = popped_room();
-    let answer = machine::end(sheet, program, rows, names, ids, nodes, name, &mut popped);
+    let answer = ends::end(sheet, program, rows, names, ids, nodes, name, &mut popped);
     put_popped(out, at, answer)
 }

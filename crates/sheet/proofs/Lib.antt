@@ -1,4 +1,2 @@
-pub mod TestLaws
-pub mod RecordLaws
 pub mod WalkLaws
 pub mod SheetLaws

@@ -7,7 +7,7 @@ use lib.ListN.{length, getD}
 use borrow.Author.Tests.{lt-ltb, le-ltb, eq-eqb, ne-eqb}
 use Rattle.cells.specs.Numbers.{be16, be32}
 use Rattle.meaning.specs.Trees.{Forest, size}
-use Rattle.sheet.specs.Records.{NodeRecord}
+use Rattle.node_records.specs.Records.{NodeRecord}
 use Rattle.sheet.specs.Parser.{andThen, walkOf, parseTrees, parseEnd, parseSheet, checkedOf}
 use Rattle.sheet.specs.declared.Walk.{Walk}
 use Rattle.sheet.specs.declared.Checked.{Checked}

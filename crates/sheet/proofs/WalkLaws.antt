@@ -8,10 +8,11 @@ use borrow.Author.Tests.{le-leb, lt-leb}
 use Rattle.cells.specs.Numbers.{be16}
 use Rattle.meaning.specs.Document.{by-link}
 use Rattle.meaning.specs.Trees.{Forest, Node, size}
-use Rattle.sheet.specs.Records.{NodeRecord, recordAt, countsAt}
-use Rattle.sheet.specs.Parser.{Parsed, andThen, afterStep, treeSize, checkRecord, parseTree, parseMany, treeAt, parseTrees, countsOf, walkOf}
-use Rattle.sheet.specs.declared.Step.{Step}
-use Rattle.sheet.specs.declared.Counts.{Counts}
+use Rattle.node_records.specs.Records.{NodeRecord, recordAt, countsAt}
+use Rattle.node_records.specs.Checks.{checkRecord, countsOf}
+use Rattle.sheet.specs.Parser.{Parsed, andThen, afterStep, treeSize, parseTree, parseMany, treeAt, parseTrees, walkOf}
+use Rattle.node_records.specs.declared.Step.{Step}
+use Rattle.node_records.specs.declared.Counts.{Counts}
 use Rattle.sheet.specs.declared.Walk.{Walk}
 
 -- ---- from a forgotten answer back to what was read

@@ -7,7 +7,7 @@ use Rattle.meaning.specs.Elements.{html}
 use Rattle.meaning.specs.Tests.{Tests}
 use Rattle.rules.specs.Attributes.{Attribute}
 use Rattle.node_tests.specs.Tests.{Negatable, TagTest, any, unmatchable, localName, nthChild, nthOfType, AttributeTest, tagHolds, opposite, tagTestHolds, attributeTestHolds}
-use Rattle.sheet.specs.Records.{NodeRecord}
+use Rattle.node_records.specs.Records.{NodeRecord}
 
 -- Kind 5: the only test that looks at the position among siblings of the same name.
 unfoldable pub ofType : TagTest → Bool

@@ -7,8 +7,9 @@ use lib.ListN.{length}
 use Rattle.cells.specs.Numbers.{part}
 use Rattle.meaning.specs.Document.{Link, child, descendant}
 use Rattle.meaning.specs.Trees.{Forest, size}
-use Rattle.sheet.specs.Records.{NodeRecord, recordAt, endOf, countsAt, tagCount, attributeCount, childCount, descendantCount, testsAt, testsEnd}
-use Rattle.sheet.specs.Parser.{rising, nodeCount, rootCount}
+use Rattle.node_records.specs.Records.{NodeRecord, recordAt, endOf, countsAt, tagCount, attributeCount, childCount, descendantCount, testsAt, testsEnd}
+use Rattle.node_records.specs.Checks.{rising}
+use Rattle.sheet.specs.Parser.{nodeCount, rootCount}
 
 -- So many tests, each with room for kind and negation, end before the record does.
 unfoldable pub TestsInside : List ℕ → (end n at : ℕ) → Type 0

@@ -11,9 +11,10 @@ use borrow.Author.Tests.{ltb-false, eqb-true, not-false}
 use Rattle.cells.specs.Numbers.{part, be16, be32}
 use Rattle.meaning.specs.Document.{child, descendant, by-link}
 use Rattle.meaning.specs.Trees.{Forest, Node, width, size, Within}
-use Rattle.sheet.specs.Records.{NodeRecord, recordAt, endOf, countsAt, tagCount, attributeCount, childCount, descendantCount, testsAt, testsEnd}
-use Rattle.sheet.specs.Parser.{thenStep, kindOk, bodyOk, checkTest, checkTests, rising, checkCounts, checkIds, checkRecord, Parsed, andThen, afterStep, treeSize, parseTree, parseMany, treeAt, parseTrees, parseEnd, parseSheet, nodeCount, rootCount, checkedOf}
-use Rattle.sheet.specs.declared.Step.{Step}
+use Rattle.node_records.specs.Records.{NodeRecord, recordAt, endOf, countsAt, tagCount, attributeCount, childCount, descendantCount, testsAt, testsEnd}
+use Rattle.node_records.specs.Checks.{thenStep, kindOk, bodyOk, checkTest, checkTests, rising, checkCounts, checkIds, checkRecord}
+use Rattle.sheet.specs.Parser.{Parsed, andThen, afterStep, treeSize, parseTree, parseMany, treeAt, parseTrees, parseEnd, parseSheet, nodeCount, rootCount, checkedOf}
+use Rattle.node_records.specs.declared.Step.{Step}
 use Rattle.sheet.specs.declared.Checked.{Checked}
 use Rattle.sheet.specs.Spelling.{TestsInside, Inside, Spells, Sheet}
 

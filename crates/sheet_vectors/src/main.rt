@@ -2,8 +2,8 @@
 use cells::at8;
 use cells::numbers::u16_at;
 use cells::numbers::u32_at;
-use compiler::compiler::Compiled;
-use compiler::compiler::compile;
+use compiler::Compiled;
+use compiler::compile;
 use libc::STDOUT_FILENO;
 use sheet::Checked;
 use sheet::check_sheet;

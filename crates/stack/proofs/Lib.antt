@@ -1,3 +1,2 @@
 pub mod Loops
-pub mod Counts
-pub mod Waits
+pub mod Bearers

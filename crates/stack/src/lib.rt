@@ -1,7 +1,6 @@
-//! The stores of open elements (stack.rs): their layout, what is counted, the waiting record; push and pop are in `items`. No stored number can trap.
+//! The stores of open elements (stack.rs): their layout, cells of one copied into another, and which nodes have trees. No stored number can trap.
+pub mod blocks;
 pub mod copies;
-pub mod counters;
-pub mod waiting;
 
 // The layout of specs/Stores.antt. Words of the header:
 pub const OPENS: usize = 0;

@@ -12,13 +12,15 @@ use Rattle.stack.specs.Stores.{Stores, stores, opens, parentsTop, ancestorsTop,
 use Rattle.stack.specs.Reads.{count-off, again-off, new-off}
 use Rattle.instructions.specs.FoundIds.{withIdsOf}
 use Rattle.exec.specs.Scans.{over, stopped}
-use Rattle.exec.specs.declared.cursor.Cursor.{Cursor}
-use Rattle.weighing.specs.Weighing.{typesCounted, pushRefusal}
+use Rattle.cursors.specs.declared.Cursor.{Cursor}
+use Rattle.shapes.specs.Shapes.{typesCounted}
+use Rattle.weighing.specs.Weighing.{pushRefusal}
 use Rattle.weighing.specs.Passing.{passed, stopped-by, push-passed}
+use Rattle.weighing.specs.Words.{cell, noIds}
 use Rattle.tags.specs.declared.Answer.{Answer}
 use Rattle.tags.specs.declared.Reply.{Reply}
 use Rattle.course.specs.Course.{hasContent}
-use Rattle.tags.specs.Tags.{Outcome, outcome, noIds, reply, cell, soughtOf, accepted, whole, begun}
+use Rattle.tags.specs.Tags.{Outcome, outcome, reply, soughtOf, accepted, whole, begun}
 
 -- ---- header words that writes leave as they are
 

@@ -1,14 +1,16 @@
 -- A start tag from its scan to its reply, for any stores (01, section 4): the answer, and what every store holds after it.
 use mathlib.Core.Bool.{Bool, true, false, cond, not}
 use mathlib.Core.List.{List, [], _∷_}
-use Prim.Native.Nat.{ℕ, _%_}
+use Prim.Native.Nat.{ℕ}
 use lib.Dec.{eqb}
 use Rattle.sheet.specs.Parser.{nodeCount}
 use Rattle.stack.specs.Stores.{Stores, counted, pushed, heldKind, held, released}
 use Rattle.exec.specs.Scans.{Sought, over, stopped}
 use Rattle.instructions.specs.FoundIds.{withIdsOf}
-use Rattle.exec.specs.declared.cursor.Cursor.{Cursor}
-use Rattle.weighing.specs.Weighing.{typesCounted, pairsFull, pushRefusal}
+use Rattle.cursors.specs.declared.Cursor.{Cursor}
+use Rattle.shapes.specs.Shapes.{typesCounted}
+use Rattle.weighing.specs.Weighing.{pairsFull, pushRefusal}
+use Rattle.weighing.specs.Words.{cell, noIds}
 use Rattle.course.specs.Course.{hasContent, begin, resumed}
 use Rattle.tags.specs.declared.Answer.{Answer}
 use Rattle.tags.specs.declared.Reply.{Reply}
@@ -21,20 +23,12 @@ pub record Outcome : Type 0 where
 abbrev pub outcome : Reply → Stores → Outcome
 outcome reply after = record { reply = reply; after = after }
 
--- No id.
-abbrev pub noIds : List ℕ
-noIds = 0 ∷ 0 ∷ []
-
 abbrev pub reply : Answer → List ℕ → Reply
 reply answer ids = record { answer = answer; ids = ids }
 
 -- A refused call hands out no id and leaves the stores as they were.
 abbrev pub refusing : ℕ → Stores → Outcome
 refusing number s = outcome (reply (Answer.Refused number) noIds) s
-
--- A number as a cell of the rows keeps it.
-abbrev pub cell : ℕ → ℕ
-cell n = n % 4294967296
 
 -- What a scan found: it stopped at a cursor, or it is over.
 abbrev pub soughtOf : (found : List ℕ) → (stuck : Bool) → Cursor → Sought

@@ -1,25 +1,22 @@
-//! A start tag from its scan to its reply (01, section 4; mod.rs): it waits, it is refused, or it is accepted. A refused tag changes nothing.
-use cells::get32;
+//! A start tag from what its scan found to its reply (01, section 4; mod.rs): it waits, it is refused, or it is accepted. A refused tag changes nothing.
 use cells::numbers::u16_at;
-use course::begin_scan;
+use counters::add_child;
 use course::has_content;
-use course::resume_scan;
-use exec::cursor::Cursor;
+use cursors::Cursor;
 use instructions::ids::gather_ids;
-use items::push_item;
-use stack::counters::add_child;
-use stack::waiting::hold;
-use stack::waiting::release;
-use weighing::are_pairs_full;
-use weighing::counts_types;
+use pushes::push_item;
+use shapes::counts_types;
+use waiting::hold;
+use waiting::release;
+use weighing::cell_of;
 use weighing::push_refusal;
 ghost use mathlib.Core.Path.{_≡_};
 ghost use Prim.Native.Nat.{_≤_};
-ghost use lib.ListN.{length, getD};
-ghost use Rattle.sheet.specs.Parser.{nodeCount};
+ghost use lib.ListN.{length};
 ghost use Rattle.stack.specs.Stores.{stores, opens, parentsTop, ancestorsTop, released};
 ghost use Rattle.weighing.specs.Weighing.{pushRefusal};
-ghost use Rattle.tags.specs.Tags.{outcome, reply, noIds, cell, soughtOf, accepted, whole, begun, lowered, given};
+ghost use Rattle.weighing.specs.Words.{noIds};
+ghost use Rattle.tags.specs.Tags.{outcome, reply, soughtOf, accepted, whole, begun};
 
 /// The answer to a start tag or to attributes: it matches, with the content flag; it waits for its attributes; or a refusal's number.
 pub enum Answer {
@@ -41,13 +38,6 @@ pub fn refused(number: u32) -> Reply
         answer: Answer::Refused(number),
         ids: [0, 0],
     }
-}
-
-// A number as a cell of the rows keeps it.
-pub fn cell_of(n: usize) -> u32
-    ensures { λ r. ⌜ r ≡ cell n ⌝ }
-{
-    (n % 4294967296) as u32
 }
 
 // A whole tag is accepted: its ids go out, it is counted, and pushed if it has content.
@@ -122,7 +112,7 @@ fn finish(
 }
 
 // What the scan of a start tag found: it waits, or it is whole.
-fn start_found(
+pub fn start_found(
     sheet: &[u8],
     program: &[u32],
     rows: &mut [u32],
@@ -163,44 +153,8 @@ fn start_found(
     )
 }
 
-// A start tag by its lower-cased name and its kind.
-pub fn start_lowered(
-    sheet: &[u8],
-    program: &[u32],
-    rows: &mut [u32],
-    names: &mut [u8],
-    ids: &mut [u64],
-    nodes: &mut [u16],
-    name: &[u8],
-    kind: u32,
-) -> Reply
-    requires { ⌜ (opens (now rows) ≤ 256) × (parentsTop (now rows) ≤ 4096) × (ancestorsTop (now rows) ≤ 1024) × (length (now name) ≤ 63) × (nodeCount (now sheet) ≤ 1024) ⌝ }
-    ensures { λ r. ⌜ outcome r (stores (now (rows .exit)) (now (names .exit)) (now (ids .exit)) (now (nodes .exit))) ≡ lowered (now (sheet .entry)) (now (program .entry)) (stores (now (rows .entry)) (now (names .entry)) (now (ids .entry)) (now (nodes .entry))) (now (name .entry)) kind ⌝ }
-{
-    if are_pairs_full(rows, names, name) {
-        return refused(26);
-    }
-    let mut found = [0; 1024];
-    let scanned = begin_scan(sheet, program, rows, names, nodes, name, kind, &mut found);
-    let n = scanned.count;
-    let cursor = scanned.cursor;
-    start_found(
-        sheet,
-        program,
-        rows,
-        names,
-        ids,
-        nodes,
-        name,
-        kind,
-        &found[0..n],
-        scanned.stuck,
-        cursor,
-    )
-}
-
 // The waiting tag with its attributes: refused by 27 or 28, or it waits no longer and is accepted.
-fn finish_held(
+pub fn finish_held(
     sheet: &[u8],
     program: &[u32],
     rows: &mut [u32],
@@ -229,47 +183,5 @@ fn finish_held(
         name,
         content,
         found,
-    )
-}
-
-// The attributes of the waiting tag, whose name is at hand.
-pub fn attributes_named(
-    sheet: &[u8],
-    program: &[u32],
-    rows: &mut [u32],
-    names: &mut [u8],
-    ids: &mut [u64],
-    nodes: &mut [u16],
-    name: &[u8],
-    self_closing: bool,
-    input: &[u8],
-    outlines: &[u32],
-) -> Reply
-    requires { ⌜ (opens (now rows) ≤ 256) × (parentsTop (now rows) ≤ 4096) × (ancestorsTop (now rows) ≤ 1024) × (length (now name) ≤ 63) × (getD (now rows) 7 0 ≤ nodeCount (now sheet)) × (nodeCount (now sheet) ≤ 1024) ⌝ }
-    ensures { λ r. ⌜ outcome r (stores (now (rows .exit)) (now (names .exit)) (now (ids .exit)) (now (nodes .exit))) ≡ given (now (sheet .entry)) (now (program .entry)) (stores (now (rows .entry)) (now (names .entry)) (now (ids .entry)) (now (nodes .entry))) (now (name .entry)) «self_closing» (now (input .entry)) (now (outlines .entry)) ⌝ }
-{
-    let mut found = [0; 1024];
-    let n = resume_scan(
-        sheet,
-        program,
-        rows,
-        names,
-        nodes,
-        name,
-        input,
-        outlines,
-        &mut found,
-    );
-    let content = has_content(get32(rows, 6), self_closing);
-    finish_held(
-        sheet,
-        program,
-        rows,
-        names,
-        ids,
-        nodes,
-        name,
-        content,
-        &found[0..n],
     )
 }

@@ -1,9 +1,9 @@
 //! Replays the cases of data/cases through the library and compares byte for byte; tools/vectors writes them and says their format.
 //! Says how many agree, or names the first case that differs and the byte at which it does.
-use calls::replay_calls;
 use cells::numbers::u32_at;
 use inputs::whole;
 use libc::STDOUT_FILENO;
+use replays::replay_calls;
 ghost use mathlib.Core.Path.{_≡_};
 ghost use Prim.Native.Nat.{_+_, _≤_, _<_};
 ghost use lib.ListN.{length};

@@ -8,7 +8,7 @@ use Rattle.calls.proofs.read_numbers.Reads as reads
 use Rattle.calls.proofs.read_numbers.Lts as lts
 use Rattle.cells.proofs.numbers.u32_at.Reads as u32-at-reads
 use Rattle.cells.proofs.put32.Reads as put32-reads
-use Rattle.calls.proofs.least.Reads as least-reads
+use Rattle.case_lines.proofs.least.Reads as least-reads
 
 abbrev Inv-loop : tie.InvT-loop
 Inv-loop input at n room₀ count i₀ room i = length room ≡ length room₀
@@ -16,51 +16,39 @@ Inv-loop input at n room₀ count i₀ room i = length room ≡ length room₀
 abbrev μ-loop : tie.MeasureT-loop
 μ-loop input at n room₀ count i₀ room i = count - i
 
--- src/calls.rt:150:9
 least-requires : tie.Need-least-requires Inv-loop μ-loop
 least-requires c κs = search needs
 
--- src/calls.rt:152:5
 loop-holds : tie.Need-loop-holds Inv-loop μ-loop
 loop-holds c = search needs
 
--- src/calls.rt:153:43
 mul-u32-at : tie.Need-mul-u32-at Inv-loop μ-loop
 mul-u32-at c = search needs
 
--- src/calls.rt:153:38
 add-u32-at : tie.Need-add-u32-at Inv-loop μ-loop
 add-u32-at c = search needs
 
--- src/calls.rt:153:24
 u32-at-requires : tie.Need-u32-at-requires Inv-loop μ-loop
 u32-at-requires c κs = search needs
 
--- src/calls.rt:153:24
 cast-put32 : tie.Need-cast-put32 Inv-loop μ-loop
 cast-put32 c = search needs
 
--- src/calls.rt:153:9
 put32-requires : tie.Need-put32-requires Inv-loop μ-loop
 put32-requires c κs = search needs
 
--- src/calls.rt:154:9
 add-i : tie.Need-add-i Inv-loop μ-loop
 add-i c = search needs
 
--- src/calls.rt:152:5
 loop-less : tie.Need-loop-less Inv-loop μ-loop
 loop-less c = search needs
 
--- src/calls.rt:152:5
 loop-again : tie.Need-loop-again Inv-loop μ-loop
 loop-again c = search needs
 
--- src/calls.rt:146:1
 same-length : tie.Need-same-length Inv-loop μ-loop
 same-length c = search needs
 
--- src/calls.rt:146:1
 returns : tie.Need-returns Inv-loop μ-loop
 returns c = search needs
 

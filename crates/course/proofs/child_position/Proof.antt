@@ -6,8 +6,8 @@ use Rattle.course.proofs.child_position.Statement.{statement}
 use Rattle.course.proofs.child_position.Tie as tie
 use Rattle.course.proofs.child_position.Reads as reads
 use Rattle.course.proofs.child_position.Lts as lts
-use Rattle.stack.proofs.counters.child_count.Reads as child-count-reads
-use Rattle.stack.proofs.counters.inc.Reads as inc-reads
+use Rattle.counters.proofs.child_count.Reads as child-count-reads
+use Rattle.counters.proofs.inc.Reads as inc-reads
 
 -- src/lib.rt:127:9
 child-count-requires : tie.Need-child-count-requires

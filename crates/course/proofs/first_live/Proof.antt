@@ -6,7 +6,7 @@ use Rattle.course.proofs.first_live.Reads as reads
 use Rattle.course.proofs.first_live.Lts as lts
 use Rattle.cells.proofs.at32.Reads as at32-reads
 use Rattle.cells.proofs.numbers.u16_at.Reads as u16-at-reads
-use Rattle.exec.proofs.cursor.Cursor.first.Reads as first-reads
+use Rattle.cursors.proofs.Cursor.first.Reads as first-reads
 
 -- src/lib.rt:153:35
 at32-requires : tie.Need-at32-requires

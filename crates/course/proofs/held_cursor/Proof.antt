@@ -1,4 +1,4 @@
-use Rattle.exec.specs.Cursors.{cursorOf}
+use Rattle.cursors.specs.Cursors.{cursorOf}
 use borrow.Author.Needs.{needs}
 use Rattle.course.proofs.held_cursor.Statement.{statement}
 use Rattle.course.proofs.held_cursor.Tie as tie

@@ -13,7 +13,7 @@ use Rattle.course.proofs.is_html.Reads as is-html-reads
 use Rattle.course.proofs.live_ranges.Reads as live-ranges-reads
 use Rattle.course.proofs.type_position.Reads as type-position-reads
 use Rattle.names.proofs.name_key.Reads as name-key-reads
-use Rattle.stack.proofs.waiting.held_found.Reads as held-found-reads
+use Rattle.waiting.proofs.held_found.Reads as held-found-reads
 
 -- src/lib.rt:439:9
 held-found-requires : tie.Need-held-found-requires

@@ -6,9 +6,9 @@ use Rattle.course.proofs.type_position.Statement.{statement}
 use Rattle.course.proofs.type_position.Tie as tie
 use Rattle.course.proofs.type_position.Reads as reads
 use Rattle.course.proofs.type_position.Lts as lts
-use Rattle.stack.proofs.counters.inc.Reads as inc-reads
-use Rattle.stack.proofs.counters.times.Reads as times-reads
-use Rattle.weighing.proofs.counts_types.Reads as counts-types-reads
+use Rattle.counters.proofs.inc.Reads as inc-reads
+use Rattle.counters.proofs.times.Reads as times-reads
+use Rattle.shapes.proofs.counts_types.Reads as counts-types-reads
 
 -- src/lib.rt:133:8
 counts-types-requires : tie.Need-counts-types-requires

@@ -6,7 +6,7 @@ use Rattle.inputs.proofs.whole.Reads as reads
 use Rattle.inputs.proofs.whole.Lts as lts
 use Rattle.lines.proofs.put_refused.Reads as put-refused-reads
 use Rattle.lines.proofs.put_sheet_refused.Reads as put-sheet-refused-reads
-use Rattle.machine.proofs.fresh_machine.Reads as fresh-machine-reads
+use Rattle.making.proofs.fresh_machine.Reads as fresh-machine-reads
 use Rattle.records.proofs.sheet_end.Reads as sheet-end-reads
 use Rattle.trace.proofs.feed.Reads as feed-reads
 

@@ -4,30 +4,24 @@ use Rattle.lines.proofs.put_number.Statement.{statement}
 use Rattle.lines.proofs.put_number.Tie as tie
 use Rattle.lines.proofs.put_number.Reads as reads
 use Rattle.lines.proofs.put_number.Lts as lts
-use Rattle.lines.proofs.put_decimal.Reads as put-decimal-reads
-use Rattle.lines.proofs.put_text.Reads as put-text-reads
+use Rattle.text.proofs.put_decimal.Reads as put-decimal-reads
+use Rattle.text.proofs.put_text.Reads as put-text-reads
 
--- src/lib.rt:94:9
 put-text-requires : tie.Need-put-text-requires
 put-text-requires c κs = search needs
 
--- src/lib.rt:95:5
 put-decimal-requires : tie.Need-put-decimal-requires
 put-decimal-requires c κs = search needs
 
--- src/lib.rt:96:25
 slice-aggregate-put-text : tie.Need-slice-aggregate-put-text
 slice-aggregate-put-text c = search needs
 
--- src/lib.rt:96:5
 put-text-requires-2 : tie.Need-put-text-requires-2
 put-text-requires-2 c κs = search needs
 
--- src/lib.rt:89:1
 same-length : tie.Need-same-length
 same-length c = search needs
 
--- src/lib.rt:89:1
 returns : tie.Need-returns
 returns c = (number-put _ _ _ _ _ _ _ _ _ _ (c .before .before .before .before .before .before .before .before .before .before .before .put-text .ensures .0) (c .before .before .before .before .before .before .before .before .before .before .before .put-text .ensures .1) (c .before .before .before .before .before .before .before .put-decimal .ensures .0 .0) (c .before .before .before .before .before .before .before .put-decimal .ensures .0 .1) (c .before .before .put-text2 .ensures .0) (c .before .before .put-text2 .ensures .1), search needs)
 

@@ -4,35 +4,28 @@ use Rattle.lines.proofs.put_sheet_refused.Statement.{statement}
 use Rattle.lines.proofs.put_sheet_refused.Tie as tie
 use Rattle.lines.proofs.put_sheet_refused.Reads as reads
 use Rattle.lines.proofs.put_sheet_refused.Lts as lts
-use Rattle.lines.proofs.put_decimal.Reads as put-decimal-reads
+use Rattle.text.proofs.put_decimal.Reads as put-decimal-reads
 use Rattle.lines.proofs.put_number.Reads as put-number-reads
-use Rattle.lines.proofs.put_text.Reads as put-text-reads
+use Rattle.text.proofs.put_text.Reads as put-text-reads
 
--- src/lib.rt:120:38
 slice-aggregate-put-text : tie.Need-slice-aggregate-put-text
 slice-aggregate-put-text c = search needs
 
--- src/lib.rt:120:9
 put-text-requires : tie.Need-put-text-requires
 put-text-requires c κs = search needs
 
--- src/lib.rt:121:5
 put-decimal-requires : tie.Need-put-decimal-requires
 put-decimal-requires c κs = search needs
 
--- src/lib.rt:122:27
 slice-aggregate-put-number : tie.Need-slice-aggregate-put-number
 slice-aggregate-put-number c = search needs
 
--- src/lib.rt:122:5
 put-number-requires : tie.Need-put-number-requires
 put-number-requires c κs = search needs
 
--- src/lib.rt:115:1
 same-length : tie.Need-same-length
 same-length c = search needs
 
--- src/lib.rt:115:1
 returns : tie.Need-returns
 returns c = (sheet-put _ _ _ _ _ _ _ _ _ _ (c .before .before .before .before .before .before .before .before .before .before .before .put-text .ensures .0) (c .before .before .before .before .before .before .before .before .before .before .before .put-text .ensures .1) (c .before .before .before .before .before .before .before .put-decimal .ensures .0 .0) (c .before .before .before .before .before .before .before .put-decimal .ensures .0 .1) (c .before .before .put-number .ensures .0 .0) (c .before .before .put-number .ensures .0 .1), search needs)
 

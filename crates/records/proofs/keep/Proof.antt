@@ -16,43 +16,33 @@ Inv-loop s₀ at end i₀ s i = (length s ≡ length s₀) × (i ≤ end - at) �
 abbrev μ-loop : tie.MeasureT-loop
 μ-loop s₀ at end i₀ s i = end - at - i
 
--- src/lib.rt:142:5
 loop-holds : tie.Need-loop-holds Inv-loop μ-loop
 loop-holds c = (refl, omega arith, keep-start _ _ _)
 
--- src/lib.rt:142:15
 sub-loop : tie.Need-sub-loop Inv-loop μ-loop
 sub-loop c = search needs
 
--- src/lib.rt:143:18
 add-s : tie.Need-add-s Inv-loop μ-loop
 add-s c = search needs
 
--- src/lib.rt:143:16
 slice-read-s : tie.Need-slice-read-s Inv-loop μ-loop
 slice-read-s c = search needs
 
--- src/lib.rt:143:9
 slice-write-s : tie.Need-slice-write-s Inv-loop μ-loop
 slice-write-s c = search needs
 
--- src/lib.rt:144:9
 add-i : tie.Need-add-i Inv-loop μ-loop
 add-i c = search needs
 
--- src/lib.rt:142:5
 loop-less : tie.Need-loop-less Inv-loop μ-loop
 loop-less c = search needs
 
--- src/lib.rt:142:5
 loop-again : tie.Need-loop-again Inv-loop μ-loop
 loop-again c = let l = c .before .before .loop in let a = c .before .before .before .args in let e : a .end - a .at - (l .i + 1) ≡ a .end - a .at - l .i - 1 = omega arith in (search needs, omega arith, l .inv .2 ∙ keep-more (l .s) (a .at) (l .i) (a .end - a .at - l .i) (omega arith) ∙ rw (← e))
 
--- src/lib.rt:137:1
 same-length : tie.Need-same-length Inv-loop μ-loop
 same-length c = search needs
 
--- src/lib.rt:137:1
 returns : tie.Need-returns Inv-loop μ-loop
 returns c = let l = c .before .loop in let a = c .before .before .args in (omega arith, sym (l .inv .2 ∙ keep-all (l .s) (a .at + l .i) (l .i) (a .end - a .at - l .i) (omega arith)))
 

@@ -7,35 +7,27 @@ use Rattle.records.proofs.record_end.Reads as reads
 use Rattle.records.proofs.record_end.Lts as lts
 use Rattle.cells.proofs.numbers.u16_at.Reads as u16-at-reads
 
--- src/lib.rt:39:9
 returns : tie.Need-returns
 returns c = end-short _ _ (omega arith)
 
--- src/lib.rt:41:16
 sub-rest : tie.Need-sub-rest
 sub-rest c = search needs
 
--- src/lib.rt:43:9
 returns-2 : tie.Need-returns-2
 returns-2 c = end-short _ _ (omega arith)
 
--- src/lib.rt:45:9
 u16-at-requires : tie.Need-u16-at-requires
 u16-at-requires c κs = search needs
 
--- src/lib.rt:47:9
 returns-3 : tie.Need-returns-3
 returns-3 c = end-cut _ _ _ (c .before .u16-at .ensures .0) (omega arith)
 
--- src/lib.rt:49:16
 add-t5 : tie.Need-add-t5
 add-t5 c = search needs
 
--- src/lib.rt:49:16
 add-t7 : tie.Need-add-t7
 add-t7 c = search needs
 
--- src/lib.rt:35:1
 returns-4 : tie.Need-returns-4
 returns-4 c = end-whole _ _ _ (c .before .u16-at .ensures .0) (omega arith)
 

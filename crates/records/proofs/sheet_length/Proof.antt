@@ -7,15 +7,12 @@ use Rattle.records.proofs.sheet_length.Reads as reads
 use Rattle.records.proofs.sheet_length.Lts as lts
 use Rattle.cells.proofs.numbers.u32_at.Reads as u32-at-reads
 
--- src/lib.rt:136:9
 u32-at-requires : tie.Need-u32-at-requires
 u32-at-requires c κs = search needs
 
--- src/lib.rt:138:9
 returns : tie.Need-returns
 returns c = (length-over _ _ (c .before .u32-at .ensures .0) (c .if1 .taken), omega arith)
 
--- src/lib.rt:132:1
 returns-2 : tie.Need-returns-2
 returns-2 c = (length-said _ _ (c .before .u32-at .ensures .0) (c .if1 .left), omega arith)
 

@@ -1,7 +1,7 @@
 use mathlib.Core.Path.{ap}
 use borrow.Author.Tests.{lt-ltb, le-ltb}
 use Rattle.records.specs.Records.{startOf}
-use Rattle.records.specs.declared.Record.{Record}
+use Rattle.attribute_records.specs.declared.Record.{Record}
 use borrow.Author.Needs.{needs}
 use Rattle.records.proofs.start_of.Statement.{statement}
 use Rattle.records.proofs.start_of.Tie as tie
@@ -9,20 +9,16 @@ use Rattle.records.proofs.start_of.Reads as reads
 use Rattle.records.proofs.start_of.Lts as lts
 use Rattle.cells.proofs.get8.Reads as get8-reads
 
--- src/lib.rt:56:9
 returns : tie.Need-returns
 unfolding startOf
 returns c = (simp (lt-ltb _ _ (c .if1 .taken)), tt)
 
--- src/lib.rt:58:19
 get8-requires : tie.Need-get8-requires
 get8-requires c κs = search needs
 
--- src/lib.rt:58:19
 cast-t5 : tie.Need-cast-t5
 cast-t5 c = search needs
 
--- src/lib.rt:52:1
 returns-2 : tie.Need-returns-2
 unfolding startOf
 returns-2 c = (simp (le-ltb _ _ (c .before .if1 .left)) (ap Record.Start (c .get8 .ensures)), tt)

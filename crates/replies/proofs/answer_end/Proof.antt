@@ -4,9 +4,9 @@ use Rattle.replies.proofs.answer_end.Statement.{statement}
 use Rattle.replies.proofs.answer_end.Tie as tie
 use Rattle.replies.proofs.answer_end.Reads as reads
 use Rattle.replies.proofs.answer_end.Lts as lts
-use Rattle.machine.proofs.end.Reads as end-reads
+use Rattle.ends.proofs.end.Reads as end-reads
 use Rattle.replies.proofs.popped_room.Reads as popped-room-reads
-use Rattle.replies.proofs.put_popped.Reads as put-popped-reads
+use Rattle.reply_lines.proofs.put_popped.Reads as put-popped-reads
 
 popped-room-requires : tie.Need-popped-room-requires
 popped-room-requires c κs = search needs
@@ -17,19 +17,15 @@ slice-aggregate-end c = search needs
 end-requires : tie.Need-end-requires
 end-requires c κs = search needs
 
--- src/lib.rt:110:5
 put-popped-requires : tie.Need-put-popped-requires
 put-popped-requires c κs = search needs
 
--- src/lib.rt:93:1
 same-length : tie.Need-same-length
 same-length c = search needs
 
--- src/lib.rt:93:1
 same-length-2 : tie.Need-same-length-2
 same-length-2 c = search needs
 
--- src/lib.rt:93:1
 returns : tie.Need-returns
 returns c = (said-pop _ _ _ _ _ _ _ _ _ _ _ _ (c .before .before .before .before .before .before .before .before .before .before .popped-room .ensures) (c .before .before .before .before .before .before .before .end .ensures) (c .before .before .put-popped .ensures .0), c .before .before .put-popped .ensures .1)
 

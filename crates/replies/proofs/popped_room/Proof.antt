@@ -6,7 +6,6 @@ use Rattle.replies.proofs.popped_room.Tie as tie
 use Rattle.replies.proofs.popped_room.Reads as reads
 use Rattle.replies.proofs.popped_room.Lts as lts
 
--- src/lib.rt:157:1
 returns : tie.Need-returns
 unfolding poppedRoom
 returns c = refl

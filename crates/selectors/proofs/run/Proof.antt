@@ -1,13 +1,13 @@
 use Prim.Native.Nat.{_+_, _*_, _≤_}
 use mathlib.Core.Path.{_≡_}
 use lib.ListN.{length}
-use Rattle.selectors.specs.Progress.{Sound}
+use Rattle.trace_blocks.specs.Progress.{Sound}
 use borrow.Author.Needs.{needs}
 use Rattle.selectors.proofs.run.Statement.{statement}
 use Rattle.selectors.proofs.run.Tie as tie
 use Rattle.selectors.proofs.run.Reads as reads
 use Rattle.selectors.proofs.run.Lts as lts
-use Rattle.selectors.proofs.turn.Reads as turn-reads
+use Rattle.trace_blocks.proofs.turn.Reads as turn-reads
 
 abbrev Inv-loop : tie.InvT-loop
 Inv-loop sheet program rows₀ names₀ ids₀ nodes₀ input₀ out₀ turns₀ p₀ rows names ids nodes input out turns p = Sound p (length input) × (length input ≡ length input₀) × (length out ≡ length out₀) × (length rows ≡ length rows₀) × (length names ≡ length names₀) × (length ids ≡ length ids₀) × (length nodes ≡ length nodes₀) × (p .place + turns * 131072 ≤ 9223372036854775808)
@@ -15,79 +15,60 @@ Inv-loop sheet program rows₀ names₀ ids₀ nodes₀ input₀ out₀ turns₀
 abbrev μ-loop : tie.MeasureT-loop
 μ-loop sheet program rows₀ names₀ ids₀ nodes₀ input₀ out₀ turns₀ p₀ rows names ids nodes input out turns p = turns
 
--- src/main.rt:143:5
 loop-holds : tie.Need-loop-holds Inv-loop μ-loop
 loop-holds c = search needs
 
--- src/main.rt:144:9
 turn-requires : tie.Need-turn-requires Inv-loop μ-loop
 turn-requires c κs = search needs
 
--- src/main.rt:146:13
 same-length : tie.Need-same-length Inv-loop μ-loop
 same-length c = search needs
 
--- src/main.rt:146:13
 same-length-2 : tie.Need-same-length-2 Inv-loop μ-loop
 same-length-2 c = search needs
 
--- src/main.rt:146:13
 same-length-3 : tie.Need-same-length-3 Inv-loop μ-loop
 same-length-3 c = search needs
 
--- src/main.rt:146:13
 same-length-4 : tie.Need-same-length-4 Inv-loop μ-loop
 same-length-4 c = search needs
 
--- src/main.rt:146:13
 same-length-5 : tie.Need-same-length-5 Inv-loop μ-loop
 same-length-5 c = search needs
 
--- src/main.rt:146:13
 same-length-6 : tie.Need-same-length-6 Inv-loop μ-loop
 same-length-6 c = search needs
 
--- src/main.rt:146:13
 returns : tie.Need-returns Inv-loop μ-loop
 returns c = search needs
 
--- src/main.rt:148:9
 sub-turns : tie.Need-sub-turns Inv-loop μ-loop
 sub-turns c = search needs
 
--- src/main.rt:143:5
 loop-less : tie.Need-loop-less Inv-loop μ-loop
 loop-less c = search needs
 
--- src/main.rt:143:5
 loop-again : tie.Need-loop-again Inv-loop μ-loop
 loop-again c = search needs
 
--- src/main.rt:123:1
 same-length-7 : tie.Need-same-length-7 Inv-loop μ-loop
 same-length-7 c = search needs
 
--- src/main.rt:123:1
 same-length-8 : tie.Need-same-length-8 Inv-loop μ-loop
 same-length-8 c = search needs
 
--- src/main.rt:123:1
 same-length-9 : tie.Need-same-length-9 Inv-loop μ-loop
 same-length-9 c = search needs
 
--- src/main.rt:123:1
 same-length-10 : tie.Need-same-length-10 Inv-loop μ-loop
 same-length-10 c = search needs
 
--- src/main.rt:123:1
 same-length-11 : tie.Need-same-length-11 Inv-loop μ-loop
 same-length-11 c = search needs
 
--- src/main.rt:123:1
 same-length-12 : tie.Need-same-length-12 Inv-loop μ-loop
 same-length-12 c = search needs
 
--- src/main.rt:123:1
 returns-2 : tie.Need-returns-2 Inv-loop μ-loop
 returns-2 c = search needs
 

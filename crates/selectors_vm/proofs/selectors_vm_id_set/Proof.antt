@@ -1,22 +1,19 @@
 use mathlib.Core.Path.{_∙_, ap}
-use Rattle.selectors_vm.specs.Told.{topReplyTold}
+use Rattle.told.specs.Told.{topReplyTold}
 use borrow.Author.Needs.{needs}
 use Rattle.selectors_vm.proofs.selectors_vm_id_set.Statement.{statement}
 use Rattle.selectors_vm.proofs.selectors_vm_id_set.Tie as tie
 use Rattle.selectors_vm.proofs.selectors_vm_id_set.Reads as reads
 use Rattle.selectors_vm.proofs.selectors_vm_id_set.Lts as lts
-use Rattle.machine.proofs.id_set.Reads as id-set-reads
-use Rattle.selectors_vm.proofs.tell_top_reply.Reads as tell-top-reply-reads
+use Rattle.ends.proofs.id_set.Reads as id-set-reads
+use Rattle.told.proofs.tell_top_reply.Reads as tell-top-reply-reads
 
--- src/lib.rt:260:20
 id-set-requires : tie.Need-id-set-requires
 id-set-requires c κs = search needs
 
--- src/lib.rt:260:5
 tell-top-reply-requires : tie.Need-tell-top-reply-requires
 tell-top-reply-requires c κs = search needs
 
--- src/lib.rt:249:1
 returns : tie.Need-returns
 returns c = c .tell-top-reply .ensures ∙ ap topReplyTold (c .before .id-set .ensures)
 

@@ -14,7 +14,7 @@ use Rattle.sheet.proofs.+check_tree+check_trees.Lts-check_tree as check
 use Rattle.sheet.proofs.check_trees.Reads as check-trees
 use Rattle.sheet.proofs.check_trees.Kinds as check-trees-kinds
 use Rattle.sheet.proofs.+check_tree+check_trees.Lts-check_trees as check-trees-lts
-use Rattle.sheet.proofs.check_record.Reads as check-record-reads
+use Rattle.node_records.proofs.check_record.Reads as check-record-reads
 use Rattle.sheet.proofs.+check_tree+check_trees.{statement}
 use Rattle.sheet.proofs.+check_tree+check_trees.Tie.{close}
 
@@ -40,7 +40,6 @@ abbrev check-trees-below : ℕ → In 1 check-trees-kinds.ps
 check-trees-below t =
     and 1 check-trees-kinds.ps (falls 1 check-trees-kinds.ps _<_ μ-check-trees t) check-trees.Pre
 
--- src/lib.rt:229:9
 check-tree-returns : (t : ℕ) → check-tree-lts.Need-returns (
   check-record-reads.Asked,
   check-record-reads.Learnt,
@@ -49,7 +48,6 @@ check-tree-returns : (t : ℕ) → check-tree-lts.Need-returns (
 ) (check-tree-at t) check-tree.Post
 check-tree-returns t c = too-deep _ _ _ _ _ (c .if1 .taken)
 
--- src/lib.rt:232:9
 check-tree-returns-2 : (t : ℕ) → check-tree-lts.Need-returns-2 (
   check-record-reads.Asked,
   check-record-reads.Learnt,
@@ -58,7 +56,6 @@ check-tree-returns-2 : (t : ℕ) → check-tree-lts.Need-returns-2 (
 ) (check-tree-at t) check-tree.Post
 check-tree-returns-2 t c = too-many _ _ _ _ _ (omega arith) (omega arith)
 
--- src/lib.rt:234:11
 check-tree-check-record-requires : (t : ℕ) → check-tree-lts.Need-check-record-requires (
   check-record-reads.Asked,
   check-record-reads.Learnt,
@@ -67,7 +64,6 @@ check-tree-check-record-requires : (t : ℕ) → check-tree-lts.Need-check-recor
 ) (check-tree-at t) check-tree.Post
 check-tree-check-record-requires t c κs = search needs
 
--- src/lib.rt:235:25
 check-tree-enum-known-number : (t : ℕ) → check-tree-lts.Need-enum-known-number (
   check-record-reads.Asked,
   check-record-reads.Learnt,
@@ -76,7 +72,6 @@ check-tree-enum-known-number : (t : ℕ) → check-tree-lts.Need-enum-known-numb
 ) (check-tree-at t) check-tree.Post
 check-tree-enum-known-number t c = search needs
 
--- src/lib.rt:237:13
 check-tree-enum-known-next : (t : ℕ) → check-tree-lts.Need-enum-known-next (
   check-record-reads.Asked,
   check-record-reads.Learnt,
@@ -85,7 +80,6 @@ check-tree-enum-known-next : (t : ℕ) → check-tree-lts.Need-enum-known-next (
 ) (check-tree-at t) check-tree.Post
 check-tree-enum-known-next t c = search needs
 
--- src/lib.rt:240:42
 check-tree-sub-check-trees : (t : ℕ) → check-tree-lts.Need-sub-check-trees (
   check-record-reads.Asked,
   check-record-reads.Learnt,
@@ -94,7 +88,6 @@ check-tree-sub-check-trees : (t : ℕ) → check-tree-lts.Need-sub-check-trees (
 ) (check-tree-at t) check-tree.Post
 check-tree-sub-check-trees t c = search needs
 
--- src/lib.rt:240:69
 check-tree-add-check-trees : (t : ℕ) → check-tree-lts.Need-add-check-trees (
   check-record-reads.Asked,
   check-record-reads.Learnt,
@@ -103,7 +96,6 @@ check-tree-add-check-trees : (t : ℕ) → check-tree-lts.Need-add-check-trees (
 ) (check-tree-at t) check-tree.Post
 check-tree-add-check-trees t c = search needs
 
--- src/lib.rt:240:20
 check-tree-check-trees-requires : (t : ℕ) → check-tree-lts.Need-check-trees-requires (
   check-record-reads.Asked,
   check-record-reads.Learnt,
@@ -112,7 +104,6 @@ check-tree-check-trees-requires : (t : ℕ) → check-tree-lts.Need-check-trees-
 ) (check-tree-at t) check-tree.Post
 check-tree-check-trees-requires t c κs = (omega arith, search needs)
 
--- src/lib.rt:241:27
 check-tree-enum-known-number-2 : (t : ℕ) → check-tree-lts.Need-enum-known-number-2 (
   check-record-reads.Asked,
   check-record-reads.Learnt,
@@ -121,7 +112,6 @@ check-tree-enum-known-number-2 : (t : ℕ) → check-tree-lts.Need-enum-known-nu
 ) (check-tree-at t) check-tree.Post
 check-tree-enum-known-number-2 t c = search needs
 
--- src/lib.rt:242:22
 check-tree-enum-known-p : (t : ℕ) → check-tree-lts.Need-enum-known-p (
   check-record-reads.Asked,
   check-record-reads.Learnt,
@@ -130,7 +120,6 @@ check-tree-enum-known-p : (t : ℕ) → check-tree-lts.Need-enum-known-p (
 ) (check-tree-at t) check-tree.Post
 check-tree-enum-known-p t c = search needs
 
--- src/lib.rt:242:53
 check-tree-sub-check-trees-2 : (t : ℕ) → check-tree-lts.Need-sub-check-trees-2 (
   check-record-reads.Asked,
   check-record-reads.Learnt,
@@ -139,7 +128,6 @@ check-tree-sub-check-trees-2 : (t : ℕ) → check-tree-lts.Need-sub-check-trees
 ) (check-tree-at t) check-tree.Post
 check-tree-sub-check-trees-2 t c = search needs
 
--- src/lib.rt:242:31
 check-tree-check-trees-requires-2 : (t : ℕ) → check-tree-lts.Need-check-trees-requires-2 (
   check-record-reads.Asked,
   check-record-reads.Learnt,
@@ -148,7 +136,6 @@ check-tree-check-trees-requires-2 : (t : ℕ) → check-tree-lts.Need-check-tree
 ) (check-tree-at t) check-tree.Post
 check-tree-check-trees-requires-2 t c κs = (omega arith, search needs)
 
--- src/lib.rt:224:1
 check-tree-returns-3 : (t : ℕ) → check-tree-lts.Need-returns-3 (
   check-record-reads.Asked,
   check-record-reads.Learnt,
@@ -157,7 +144,6 @@ check-tree-returns-3 : (t : ℕ) → check-tree-lts.Need-returns-3 (
 ) (check-tree-at t) check-tree.Post
 check-tree-returns-3 t c = bad-record _ _ _ _ _ (omega arith) (omega arith) _ _ (sym (c .before .number .given .1) ∙ c .before .before .before .check-record .ensures)
 
--- src/lib.rt:224:1
 check-tree-returns-4 : (t : ℕ) → check-tree-lts.Need-returns-4 (
   check-record-reads.Asked,
   check-record-reads.Learnt,
@@ -166,7 +152,6 @@ check-tree-returns-4 : (t : ℕ) → check-tree-lts.Need-returns-4 (
 ) (check-tree-at t) check-tree.Post
 check-tree-returns-4 t c = bad-children _ _ _ _ _ (omega arith) (omega arith) (sym (c .before .before .before .before .before .next .given .1) ∙ c .before .before .before .before .before .before .before .check-record .ensures) _ _ (sym (c .before .number2 .given .1) ∙ c .before .before .before .check-trees .ensures)
 
--- src/lib.rt:224:1
 check-tree-returns-5 : (t : ℕ) → check-tree-lts.Need-returns-5 (
   check-record-reads.Asked,
   check-record-reads.Learnt,
@@ -181,28 +166,24 @@ check-trees-Inv-loop s total depth count at used left₀ here₀ seen₀ left he
 abbrev check-trees-μ-loop : check-trees-lts.MeasureT-loop
 check-trees-μ-loop s total depth count at used left₀ here₀ seen₀ left here seen = left
 
--- src/lib.rt:255:5
 check-trees-loop-holds : (t : ℕ) → check-trees-lts.Need-loop-holds (
   check-tree-below t,
   check-tree.Post,
 ) (check-trees-at t) check-trees.Post check-trees-Inv-loop check-trees-μ-loop
 check-trees-loop-holds t c = refl
 
--- src/lib.rt:256:15
 check-trees-check-tree-requires : (t : ℕ) → check-trees-lts.Need-check-tree-requires (
   check-tree-below t,
   check-tree.Post,
 ) (check-trees-at t) check-trees.Post check-trees-Inv-loop check-trees-μ-loop
 check-trees-check-tree-requires t c κs = (omega arith, search needs)
 
--- src/lib.rt:257:27
 check-trees-enum-known-number : (t : ℕ) → check-trees-lts.Need-enum-known-number (
   check-tree-below t,
   check-tree.Post,
 ) (check-trees-at t) check-trees.Post check-trees-Inv-loop check-trees-μ-loop
 check-trees-enum-known-number t c = search needs
 
--- src/lib.rt:258:17
 check-trees-returns :
     (t : ℕ) →
     check-trees-lts.Need-returns
@@ -213,35 +194,30 @@ check-trees-returns :
     check-trees-μ-loop
 check-trees-returns t c = trees-refused _ _ _ _ _ _ (omega arith) _ _ (sym (c .before .number .given .1) ∙ c .before .before .before .check-tree .ensures) ∙ sym (c .before .before .before .before .before .loop .inv)
 
--- src/lib.rt:260:22
 check-trees-enum-known-p : (t : ℕ) → check-trees-lts.Need-enum-known-p (
   check-tree-below t,
   check-tree.Post,
 ) (check-trees-at t) check-trees.Post check-trees-Inv-loop check-trees-μ-loop
 check-trees-enum-known-p t c = search needs
 
--- src/lib.rt:263:17
 check-trees-sub-left : (t : ℕ) → check-trees-lts.Need-sub-left (
   check-tree-below t,
   check-tree.Post,
 ) (check-trees-at t) check-trees.Post check-trees-Inv-loop check-trees-μ-loop
 check-trees-sub-left t c = search needs
 
--- src/lib.rt:255:5
 check-trees-loop-less : (t : ℕ) → check-trees-lts.Need-loop-less (
   check-tree-below t,
   check-tree.Post,
 ) (check-trees-at t) check-trees.Post check-trees-Inv-loop check-trees-μ-loop
 check-trees-loop-less t c = search needs
 
--- src/lib.rt:255:5
 check-trees-loop-again : (t : ℕ) → check-trees-lts.Need-loop-again (
   check-tree-below t,
   check-tree.Post,
 ) (check-trees-at t) check-trees.Post check-trees-Inv-loop check-trees-μ-loop
 check-trees-loop-again t c = c .before .before .before .before .before .loop .inv ∙ trees-more _ _ _ _ _ _ (omega arith) _ _ (sym (c .before .p .given .1) ∙ c .before .before .before .check-tree .ensures)
 
--- src/lib.rt:248:1
 check-trees-returns-2 : (t : ℕ) → check-trees-lts.Need-returns-2 (
   check-tree-below t,
   check-tree.Post,

@@ -11,67 +11,51 @@ use Rattle.cells.proofs.numbers.u16_at.Reads as u16-at-reads
 use Rattle.cells.proofs.numbers.u32_at.Reads as u32-at-reads
 use Rattle.sheet.proofs.check_trees.Reads as check-trees-reads
 
--- src/lib.rt:275:9
 returns : tie.Need-returns
 returns c = short _ (omega arith)
 
--- src/lib.rt:278:9
 returns-2 : tie.Need-returns-2
 returns-2 c = long _ (omega arith) (omega arith)
 
--- src/lib.rt:280:8
 at8-requires : tie.Need-at8-requires
 at8-requires c κs = search needs
 
--- src/lib.rt:281:9
 returns-3 : tie.Need-returns-3
 returns-3 c = version _ (omega arith) (omega arith) (λ h. omega arith)
 
--- src/lib.rt:283:8
 u32-at-requires : tie.Need-u32-at-requires
 u32-at-requires c κs = search needs
 
--- src/lib.rt:284:9
 returns-4 : tie.Need-returns-4
 returns-4 c = field _ (omega arith) (omega arith) (omega arith) (λ h. omega arith)
 
--- src/lib.rt:286:9
 u16-at-requires : tie.Need-u16-at-requires
 u16-at-requires c κs = search needs
 
--- src/lib.rt:288:9
 returns-5 : tie.Need-returns-5
 returns-5 c = many _ (omega arith) (omega arith) (omega arith) (omega arith) (omega arith)
 
--- src/lib.rt:290:37
 u16-at-requires-2 : tie.Need-u16-at-requires-2
 u16-at-requires-2 c κs = search needs
 
--- src/lib.rt:290:11
 check-trees-requires : tie.Need-check-trees-requires
 check-trees-requires c κs = search needs
 
--- src/lib.rt:291:23
 enum-known-number : tie.Need-enum-known-number
 enum-known-number c = search needs
 
--- src/lib.rt:292:18
 enum-known-at : tie.Need-enum-known-at
 enum-known-at c = search needs
 
--- src/lib.rt:294:17
 returns-6 : tie.Need-returns-6
 returns-6 c = left-over _ (omega arith) (omega arith) (omega arith) (omega arith) (omega arith) (c .before .before .before .before .before .before .before .u16-at .ensures .0) (c .before .before .before .before .before .u16-at2 .ensures .0) (sym (c .before .before .at .given .1) ∙ c .before .before .before .before .check-trees .ensures) (λ h. omega arith)
 
--- src/lib.rt:297:17
 returns-7 : tie.Need-returns-7
 returns-7 c = few _ (omega arith) (omega arith) (omega arith) (omega arith) (omega arith) (c .before .before .before .before .before .before .before .before .u16-at .ensures .0) (c .before .before .before .before .before .before .u16-at2 .ensures .0) (sym (c .before .before .before .at .given .1) ∙ c .before .before .before .before .before .check-trees .ensures) (omega arith) (λ h. omega arith)
 
--- src/lib.rt:271:1
 returns-8 : tie.Need-returns-8
 returns-8 c = bad-trees _ (omega arith) (omega arith) (omega arith) (omega arith) (omega arith) (c .before .before .before .before .before .before .u16-at .ensures .0) (c .before .before .before .before .u16-at2 .ensures .0) _ _ (sym (c .before .number .given .1) ∙ c .before .before .before .check-trees .ensures)
 
--- src/lib.rt:271:1
 returns-9 : tie.Need-returns-9
 returns-9 c = good _ (omega arith) (omega arith) (omega arith) (omega arith) (omega arith) (c .before .before .before .before .before .before .before .before .u16-at .ensures .0) (c .before .before .before .before .before .before .u16-at2 .ensures .0) (sym (c .before .before .before .at .given .1) ∙ c .before .before .before .before .before .check-trees .ensures) (omega arith) (omega arith)
 

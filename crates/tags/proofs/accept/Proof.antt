@@ -7,9 +7,9 @@ use Rattle.tags.proofs.accept.Reads as reads
 use Rattle.tags.proofs.accept.Lts as lts
 use Rattle.cells.proofs.numbers.u16_at.Reads as u16-at-reads
 use Rattle.instructions.proofs.ids.gather_ids.Reads as gather-ids-reads
-use Rattle.items.proofs.push_item.Reads as push-item-reads
-use Rattle.stack.proofs.counters.add_child.Reads as add-child-reads
-use Rattle.weighing.proofs.counts_types.Reads as counts-types-reads
+use Rattle.pushes.proofs.push_item.Reads as push-item-reads
+use Rattle.counters.proofs.add_child.Reads as add-child-reads
+use Rattle.shapes.proofs.counts_types.Reads as counts-types-reads
 
 -- src/lib.rt:231:39
 slice-aggregate-gather-ids : tie.Need-slice-aggregate-gather-ids

@@ -6,7 +6,7 @@ use Rattle.tags.proofs.finish_held.Reads as reads
 use Rattle.tags.proofs.finish_held.Lts as lts
 use Rattle.tags.proofs.accept.Reads as accept-reads
 use Rattle.tags.proofs.refused.Reads as refused-reads
-use Rattle.stack.proofs.waiting.release.Reads as release-reads
+use Rattle.waiting.proofs.release.Reads as release-reads
 use Rattle.weighing.proofs.push_refusal.Reads as push-refusal-reads
 
 -- src/lib.rt:406:9

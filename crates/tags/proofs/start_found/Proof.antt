@@ -4,10 +4,10 @@ use Rattle.tags.proofs.start_found.Statement.{statement}
 use Rattle.tags.proofs.start_found.Tie as tie
 use Rattle.tags.proofs.start_found.Reads as reads
 use Rattle.tags.proofs.start_found.Lts as lts
-use Rattle.tags.proofs.cell_of.Reads as cell-of-reads
+use Rattle.weighing.proofs.cell_of.Reads as cell-of-reads
 use Rattle.tags.proofs.finish.Reads as finish-reads
 use Rattle.course.proofs.has_content.Reads as has-content-reads
-use Rattle.stack.proofs.waiting.hold.Reads as hold-reads
+use Rattle.waiting.proofs.hold.Reads as hold-reads
 
 -- src/lib.rt:304:13
 cell-of-requires : tie.Need-cell-of-requires

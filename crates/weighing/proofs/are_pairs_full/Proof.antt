@@ -1,4 +1,4 @@
-use Rattle.weighing.proofs.Steps.{below, not-below}
+use Rattle.shapes.proofs.Steps.{below, not-below}
 use Rattle.weighing.specs.Weighing.{pairsFull}
 use borrow.Author.Needs.{needs}
 use Rattle.weighing.proofs.are_pairs_full.Statement.{statement}
@@ -6,32 +6,26 @@ use Rattle.weighing.proofs.are_pairs_full.Tie as tie
 use Rattle.weighing.proofs.are_pairs_full.Reads as reads
 use Rattle.weighing.proofs.are_pairs_full.Lts as lts
 use Rattle.cells.proofs.at32.Reads as at32-reads
-use Rattle.stack.proofs.counters.is_known.Reads as is-known-reads
-use Rattle.weighing.proofs.counts_types.Reads as counts-types-reads
+use Rattle.counters.proofs.is_known.Reads as is-known-reads
+use Rattle.shapes.proofs.counts_types.Reads as counts-types-reads
 
--- src/lib.rt:157:9
 counts-types-requires : tie.Need-counts-types-requires
 counts-types-requires c κs = search needs
 
--- src/lib.rt:158:9
 returns : tie.Need-returns
 unfolding pairsFull
 returns c = simp (← c .before .counts-types .ensures, c .if1 .taken)
 
--- src/lib.rt:160:8
 at32-requires : tie.Need-at32-requires
 at32-requires c κs = search needs
 
--- src/lib.rt:161:9
 returns-2 : tie.Need-returns-2
 unfolding pairsFull
 returns-2 c = simp (← c .before .before .before .counts-types .ensures, c .before .before .if1 .left, below _ _ _ (c .before .at32 .ensures .0) (c .if2 .taken))
 
--- src/lib.rt:163:6
 is-known-requires : tie.Need-is-known-requires
 is-known-requires c κs = search needs
 
--- src/lib.rt:154:1
 returns-3 : tie.Need-returns-3
 unfolding pairsFull
 returns-3 c = simp (← c .before .before .before .before .counts-types .ensures, c .before .before .before .if1 .left, not-below _ _ _ (c .before .before .at32 .ensures .0) (c .before .if2 .left), c .is-known .ensures)

@@ -1,4 +1,4 @@
-use Rattle.weighing.proofs.Steps.{is, is-not}
+use Rattle.shapes.proofs.Steps.{is, is-not}
 use Rattle.weighing.specs.Weighing.{attributesRefusal}
 use borrow.Author.Needs.{needs}
 use Rattle.weighing.proofs.attributes_refusal.Statement.{statement}
@@ -8,25 +8,20 @@ use Rattle.weighing.proofs.attributes_refusal.Lts as lts
 use Rattle.cells.proofs.at32.Reads as at32-reads
 use Rattle.rules.proofs.attribute_matcher.good_outlines.Reads as good-outlines-reads
 
--- src/lib.rt:192:8
 at32-requires : tie.Need-at32-requires
 at32-requires c κs = search needs
 
--- src/lib.rt:193:9
 returns : tie.Need-returns
 unfolding attributesRefusal
 returns c = simp (is _ _ _ (c .before .at32 .ensures .0) (c .if1 .taken))
 
--- src/lib.rt:195:9
 good-outlines-requires : tie.Need-good-outlines-requires
 good-outlines-requires c κs = search needs
 
--- src/lib.rt:196:9
 returns-2 : tie.Need-returns-2
 unfolding attributesRefusal
 returns-2 c = simp (is-not _ _ _ (c .before .before .before .at32 .ensures .0) (c .before .before .if1 .left), ← c .before .good-outlines .ensures, c .if2 .taken)
 
--- src/lib.rt:189:1
 returns-3 : tie.Need-returns-3
 unfolding attributesRefusal
 returns-3 c = simp (is-not _ _ _ (c .before .before .before .at32 .ensures .0) (c .before .before .if1 .left), ← c .before .good-outlines .ensures, c .if2 .left)

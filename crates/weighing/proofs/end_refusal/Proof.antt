@@ -1,4 +1,4 @@
-use Rattle.weighing.proofs.Steps.{is, is-not}
+use Rattle.shapes.proofs.Steps.{is, is-not}
 use Rattle.weighing.specs.Weighing.{endRefusal}
 use borrow.Author.Needs.{needs}
 use Rattle.weighing.proofs.end_refusal.Statement.{statement}
@@ -8,25 +8,20 @@ use Rattle.weighing.proofs.end_refusal.Lts as lts
 use Rattle.cells.proofs.at32.Reads as at32-reads
 use Rattle.weighing.proofs.is_bad_name.Reads as is-bad-name-reads
 
--- src/lib.rt:205:8
 at32-requires : tie.Need-at32-requires
 at32-requires c κs = search needs
 
--- src/lib.rt:206:9
 returns : tie.Need-returns
 unfolding endRefusal
 returns c = simp (is-not _ _ _ (c .before .at32 .ensures .0) (c .if1 .taken))
 
--- src/lib.rt:208:8
 is-bad-name-requires : tie.Need-is-bad-name-requires
 is-bad-name-requires c κs = search needs
 
--- src/lib.rt:209:9
 returns-2 : tie.Need-returns-2
 unfolding endRefusal
 returns-2 c = simp (is _ _ _ (c .before .before .before .at32 .ensures .0) (c .before .before .if1 .left), ← c .before .is-bad-name .ensures, c .if2 .taken)
 
--- src/lib.rt:202:1
 returns-3 : tie.Need-returns-3
 unfolding endRefusal
 returns-3 c = simp (is _ _ _ (c .before .before .before .at32 .ensures .0) (c .before .before .if1 .left), ← c .before .is-bad-name .ensures, c .if2 .left)

@@ -6,12 +6,10 @@ use Rattle.weighing.proofs.is_bad_name.Tie as tie
 use Rattle.weighing.proofs.is_bad_name.Reads as reads
 use Rattle.weighing.proofs.is_bad_name.Lts as lts
 
--- src/lib.rt:118:9
 returns : tie.Need-returns
 unfolding badName
 returns c = rw (eq-eqb _ _ (c .if1 .taken))
 
--- src/lib.rt:114:1
 returns-2 : tie.Need-returns-2
 unfolding badName
 returns-2 c = rw (ne-eqb _ _ (c .if1 .left))

@@ -20,41 +20,32 @@ Inv-loop name out₀ i₀ out i = (length out ≡ length out₀) × ((i ≤ leng
 abbrev μ-loop : tie.MeasureT-loop
 μ-loop name out₀ i₀ out i = length name - i
 
--- src/lib.rt:128:5
 loop-holds : tie.Need-loop-holds Inv-loop μ-loop
 loop-holds c = (refl, (omega arith, refl))
 
--- src/lib.rt:129:28
 shared-slice-read-lower : tie.Need-shared-slice-read-lower Inv-loop μ-loop
 shared-slice-read-lower c = search needs
 
--- src/lib.rt:129:22
 lower-requires : tie.Need-lower-requires Inv-loop μ-loop
 lower-requires c κs = search needs
 
--- src/lib.rt:129:9
 put8-requires : tie.Need-put8-requires Inv-loop μ-loop
 put8-requires c κs = search needs
 
--- src/lib.rt:130:9
 add-i : tie.Need-add-i Inv-loop μ-loop
 add-i c = search needs
 
--- src/lib.rt:128:5
 loop-less : tie.Need-loop-less Inv-loop μ-loop
 loop-less c = search needs
 
--- src/lib.rt:128:5
 loop-again : tie.Need-loop-again Inv-loop μ-loop
 loop-again c =
     let l = c .before .before .before .before .before .before .before in
     (c .before .before .put8 .kept .0 ∙ l .loop .inv .0, (omega arith, lower-more _ _ _ _ (l .loop .inv .1 .1) _ _ (c .before .before .before .before .before .before .loop-test .taken) (c .before .before .before .lower .ensures) (c .before .before .put8 .ensures)))
 
--- src/lib.rt:124:1
 same-length : tie.Need-same-length Inv-loop μ-loop
 same-length c = c .before .loop .inv .0
 
--- src/lib.rt:124:1
 returns : tie.Need-returns Inv-loop μ-loop
 returns c = lower-end _ _ _ _ (c .before .loop .inv .1 .1) (c .loop-test .left)
 

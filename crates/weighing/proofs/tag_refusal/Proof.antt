@@ -1,5 +1,5 @@
 use borrow.Author.Tests.{lt-ltb, le-ltb}
-use Rattle.weighing.proofs.Steps.{is, is-not, reached, not-reached}
+use Rattle.shapes.proofs.Steps.{is, is-not, reached, not-reached}
 use Rattle.weighing.specs.Weighing.{tagRefusal}
 use borrow.Author.Needs.{needs}
 use Rattle.weighing.proofs.tag_refusal.Statement.{statement}
@@ -7,42 +7,34 @@ use Rattle.weighing.proofs.tag_refusal.Tie as tie
 use Rattle.weighing.proofs.tag_refusal.Reads as reads
 use Rattle.weighing.proofs.tag_refusal.Lts as lts
 use Rattle.cells.proofs.at32.Reads as at32-reads
-use Rattle.stack.proofs.counters.child_count.Reads as child-count-reads
+use Rattle.counters.proofs.child_count.Reads as child-count-reads
 use Rattle.weighing.proofs.is_bad_name.Reads as is-bad-name-reads
 
--- src/lib.rt:138:8
 at32-requires : tie.Need-at32-requires
 at32-requires c κs = search needs
 
--- src/lib.rt:139:9
 returns : tie.Need-returns
 unfolding tagRefusal
 returns c = simp (is-not _ _ _ (c .before .at32 .ensures .0) (c .if1 .taken))
 
--- src/lib.rt:141:8
 is-bad-name-requires : tie.Need-is-bad-name-requires
 is-bad-name-requires c κs = search needs
 
--- src/lib.rt:142:9
 returns-2 : tie.Need-returns-2
 unfolding tagRefusal
 returns-2 c = simp (is _ _ _ (c .before .before .before .at32 .ensures .0) (c .before .before .if1 .left), ← c .before .is-bad-name .ensures, c .if2 .taken)
 
--- src/lib.rt:145:9
 returns-3 : tie.Need-returns-3
 unfolding tagRefusal
 returns-3 c = simp (is _ _ _ (c .before .before .before .before .at32 .ensures .0) (c .before .before .before .if1 .left), ← c .before .before .is-bad-name .ensures, c .before .if2 .left, lt-ltb _ _ (c .if3 .taken))
 
--- src/lib.rt:147:22
 child-count-requires : tie.Need-child-count-requires
 child-count-requires c κs = search needs
 
--- src/lib.rt:148:9
 returns-4 : tie.Need-returns-4
 unfolding tagRefusal
 returns-4 c = simp (is _ _ _ (c .before .before .before .before .before .before .at32 .ensures .0) (c .before .before .before .before .before .if1 .left), ← c .before .before .before .before .is-bad-name .ensures, c .before .before .before .if2 .left, le-ltb _ _ (c .before .before .if3 .left), reached _ _ _ (c .before .child-count .ensures) (c .if4 .taken))
 
--- src/lib.rt:135:1
 returns-5 : tie.Need-returns-5
 unfolding tagRefusal
 returns-5 c = simp (is _ _ _ (c .before .before .before .before .before .before .at32 .ensures .0) (c .before .before .before .before .before .if1 .left), ← c .before .before .before .before .is-bad-name .ensures, c .before .before .before .if2 .left, le-ltb _ _ (c .before .before .if3 .left), not-reached _ _ _ (c .before .child-count .ensures) (c .if4 .left))

@@ -16,47 +16,36 @@ Inv-loop program key from count end a₀ a = (from ≤ a) × ((a ≤ end) × (fi
 abbrev μ-loop : tie.MeasureT-loop
 μ-loop program key from count end a₀ a = end - a
 
--- src/scan.rt:52:15
 add-end : tie.Need-add-end Inv-loop μ-loop
 add-end c = search needs
 
--- src/scan.rt:54:5
 loop-holds : tie.Need-loop-holds Inv-loop μ-loop
 loop-holds c = let e : c .before .args .from + c .before .args .count - c .before .args .from ≡ c .before .args .count = omega arith in (omega arith, (omega arith, rw e))
 
--- src/scan.rt:55:37
 mul-get32 : tie.Need-mul-get32 Inv-loop μ-loop
 mul-get32 c = search needs
 
--- src/scan.rt:55:37
 add-get32 : tie.Need-add-get32 Inv-loop μ-loop
 add-get32 c = search needs
 
--- src/scan.rt:55:13
 get32-requires : tie.Need-get32-requires Inv-loop μ-loop
 get32-requires c κs = search needs
 
--- src/scan.rt:57:13
 returns : tie.Need-returns Inv-loop μ-loop
 returns c = let l = c .before .before .before in (sym (l .loop .inv .1 .1 ∙ first-here _ _ _ _ (fits-none _ _ _ _ (c .before .get32 .ensures) (c .if1 .taken)) (omega arith)), (omega arith, omega arith))
 
--- src/scan.rt:60:13
 returns-2 : tie.Need-returns-2 Inv-loop μ-loop
 returns-2 c = let l = c .before .before .before .before in (sym (l .loop .inv .1 .1 ∙ first-here _ _ _ _ (fits-same _ _ _ _ (c .before .before .get32 .ensures) (c .before .if1 .left) (c .if2 .taken)) (omega arith)), (omega arith, omega arith))
 
--- src/scan.rt:62:9
 add-a : tie.Need-add-a Inv-loop μ-loop
 add-a c = search needs
 
--- src/scan.rt:54:5
 loop-less : tie.Need-loop-less Inv-loop μ-loop
 loop-less c = search needs
 
--- src/scan.rt:54:5
 loop-again : tie.Need-loop-again Inv-loop μ-loop
 loop-again c = let l = c .before .before .before .before in (omega arith, (omega arith, l .loop .inv .1 .1 ∙ first-later _ _ _ _ _ (fits-not _ _ _ _ (c .before .before .get32 .ensures) (c .before .if1 .left) (c .if2 .left)) (omega arith)))
 
--- src/scan.rt:48:1
 returns-3 : tie.Need-returns-3 Inv-loop μ-loop
 returns-3 c = let l = c .before in (sym (l .loop .inv .1 .1 ∙ first-none _ _ _ _ (omega arith)), (omega arith, omega arith))
 

@@ -8,35 +8,27 @@ use Rattle.exec.proofs.scan.next_live.Lts as lts
 use Rattle.exec.proofs.scan.next_candidate.Reads as next-candidate-reads
 use Rattle.instructions.proofs.instruction.tests_bytes.Reads as tests-bytes-reads
 
--- src/scan.rt:135:11
 next-candidate-requires : tie.Need-next-candidate-requires
 next-candidate-requires c κs = search needs
 
--- src/scan.rt:136:23
 enum-known-d : tie.Need-enum-known-d
 enum-known-d c = search needs
 
--- src/scan.rt:137:43
 cast-tests-bytes : tie.Need-cast-tests-bytes
 cast-tests-bytes c = let d = c .before .before in let z = at-below _ _ _ _ _ _ _ (d .before .before .next-candidate .ensures) _ _ (d .d .given .1) in omega arith
 
--- src/scan.rt:137:17
 tests-bytes-requires : tie.Need-tests-bytes-requires
 tests-bytes-requires c κs = search needs
 
--- src/scan.rt:139:17
 returns : tie.Need-returns
 returns c = let t = c .before in let d = t .before .before .before in past-within _ _ _ _ _ _ _ (d .before .before .next-candidate .ensures) _ _ (d .d .given .1) _ _ _ (t .tests-bytes .ensures) (omega arith)
 
--- src/scan.rt:143:28
 enum-told : tie.Need-enum-told
 enum-told c = search needs
 
--- src/scan.rt:124:1
 returns-2 : tie.Need-returns-2
 returns-2 c = let t = c .before in let d = t .before .before .before in at-within _ _ _ _ _ _ _ (d .before .before .next-candidate .ensures) _ _ (d .d .given .1) _ _ _ (t .tests-bytes .ensures) (omega arith)
 
--- src/scan.rt:124:1
 returns-3 : tie.Need-returns-3
 returns-3 c = over-within _ _ _ _ _ _ _ (c .before .before .next-candidate .ensures) _ _ (c .enum-told .given .1)
 

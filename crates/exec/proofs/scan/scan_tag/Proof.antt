@@ -12,7 +12,7 @@ use Rattle.exec.proofs.scan.scan_tag.Tie as tie
 use Rattle.exec.proofs.scan.scan_tag.Reads as reads
 use Rattle.exec.proofs.scan.scan_tag.Lts as lts
 use Rattle.cells.proofs.put16.Reads as put16-reads
-use Rattle.exec.proofs.cursor.Cursor.next.Reads as next-reads
+use Rattle.cursors.proofs.Cursor.next.Reads as next-reads
 use Rattle.instructions.proofs.instruction.asks_attributes.Reads as asks-attributes-reads
 use Rattle.instructions.proofs.instruction.tag_tests_pass.Reads as tag-tests-pass-reads
 use Rattle.exec.proofs.scan.next_live.Reads as next-live-reads
@@ -29,75 +29,57 @@ reached c = reached-at _ _ _ _ _ _ _ _ _ _ _ _ (c .before .before .next-live .en
 over : (c : tie.After-enum-told Inv-loop μ-loop) → let l = c .before .before .before in let s = l .before .before .before .before .before .before .args in fromKeyed (s .program .now) (s .key) (live (s .sheet .now) (s .program .now) (s .nodes .now) (s .ranges) (s .key) (l .loop .c) (l .loop .left) (l .loop .bytes)) ≡ []
 over c = reached-over _ _ _ _ _ _ _ _ _ (c .before .before .next-live .ensures) (c .enum-told .given .1)
 
--- src/scan.rt:122:5
 loop-holds : tie.Need-loop-holds Inv-loop μ-loop
 loop-holds c = (omega arith, (refl, (refl, refl)))
 
--- src/scan.rt:123:15
 next-live-requires : tie.Need-next-live-requires Inv-loop μ-loop
 next-live-requires c κs = search needs
 
--- src/scan.rt:124:27
 enum-known-d : tie.Need-enum-known-d Inv-loop μ-loop
 enum-known-d c = search needs
 
--- src/scan.rt:125:25
 cast-a : tie.Need-cast-a Inv-loop μ-loop
 cast-a c = let d = c .before .before in let r = reached d in let z = r .below in omega arith
 
--- src/scan.rt:126:17
 next-requires : tie.Need-next-requires Inv-loop μ-loop
 next-requires c κs = search needs
 
--- src/scan.rt:128:20
 tag-tests-pass-requires : tie.Need-tag-tests-pass-requires Inv-loop μ-loop
 tag-tests-pass-requires c κs = search needs
 
--- src/scan.rt:129:24
 asks-attributes-requires : tie.Need-asks-attributes-requires Inv-loop μ-loop
 asks-attributes-requires c κs = search needs
 
--- src/scan.rt:130:25
 same-length : tie.Need-same-length Inv-loop μ-loop
 same-length c = search needs
 
--- src/scan.rt:130:25
 returns : tie.Need-returns Inv-loop μ-loop
 returns c = let e2 = c in let a = e2 .before in let e1 = a .before in let t = e1 .before in let n = t .before in let d = n .before .before .before in let l = d .before .before .before in let r = reached d in let z = r .less in goes-stuck _ _ _ _ _ (l .loop .inv .1 .1) _ (tag-stops _ _ _ _ _ _ _ _ _ _ _ _ _ _ r _ (t .tag-tests-pass .ensures) _ (n .next .ensures) _ (a .asks-attributes .ensures) (e1 .if1 .taken) (e2 .if2 .taken))
 
--- src/scan.rt:136:21
 put16-requires : tie.Need-put16-requires Inv-loop μ-loop
 put16-requires c κs = search needs
 
--- src/scan.rt:137:21
 add-count : tie.Need-add-count Inv-loop μ-loop
 add-count c = let e2 = c .before .before .before .before in let a = e2 .before in let e1 = a .before in let t = e1 .before in let n = t .before in let d = n .before .before .before in let l = d .before .before .before in let r = reached d in let z = r .less in omega (arith, z, l .loop .inv .0, l .before .before .before .before .before .before .fits .budget)
 
--- src/scan.rt:122:5
 loop-less : tie.Need-loop-less Inv-loop μ-loop
 loop-less c = let e2 = c .before .before .before .before in let a = e2 .before in let e1 = a .before in let t = e1 .before in let n = t .before in let d = n .before .before .before in let l = d .before .before .before in let r = reached d in let z = r .less in z
 
--- src/scan.rt:122:5
 loop-again : tie.Need-loop-again Inv-loop μ-loop
 loop-again c = let p = c .before .before in let e2 = p .before .before in let a = e2 .before in let e1 = a .before in let t = e1 .before in let n = t .before in let d = n .before .before .before in let l = d .before .before .before in let r = reached d in let z = r .less in (omega arith, (omega arith, goes-found _ _ _ _ _ (l .loop .inv .1 .1) _ _ _ (tag-finds _ _ _ _ _ _ _ _ _ _ _ _ _ _ r _ (t .tag-tests-pass .ensures) _ (n .next .ensures) _ (a .asks-attributes .ensures) (e1 .if1 .taken) (e2 .if2 .left)) (p .put16 .ensures)))
 
--- src/scan.rt:122:5
 loop-less-2 : tie.Need-loop-less-2 Inv-loop μ-loop
 loop-less-2 c = let e1 = c in let t = e1 .before in let n = t .before in let d = n .before .before .before in let l = d .before .before .before in let r = reached d in let z = r .less in z
 
--- src/scan.rt:122:5
 loop-again-2 : tie.Need-loop-again-2 Inv-loop μ-loop
 loop-again-2 c = let e1 = c in let t = e1 .before in let n = t .before in let d = n .before .before .before in let l = d .before .before .before in let r = reached d in let z = r .less in (omega arith, (l .loop .inv .1 .0, goes-on _ _ _ _ _ (l .loop .inv .1 .1) _ (tag-fails _ _ _ _ _ _ _ _ _ _ _ _ _ _ r _ (t .tag-tests-pass .ensures) _ (n .next .ensures) (e1 .if1 .left))))
 
--- src/scan.rt:144:29
 enum-told : tie.Need-enum-told Inv-loop μ-loop
 enum-told c = search needs
 
--- src/scan.rt:141:17
 same-length-2 : tie.Need-same-length-2 Inv-loop μ-loop
 same-length-2 c = search needs
 
--- src/scan.rt:141:17
 returns-2 : tie.Need-returns-2 Inv-loop μ-loop
 returns-2 c = let l = c .before .before .before in goes-out _ _ _ _ _ (l .loop .inv .1 .1) (tag-over _ _ _ _ _ _ _ _ _ _ _ (over c))
 

@@ -6,27 +6,21 @@ use Rattle.exec.proofs.scan.stretch.Tie as tie
 use Rattle.exec.proofs.scan.stretch.Reads as reads
 use Rattle.exec.proofs.scan.stretch.Lts as lts
 
--- src/scan.rt:36:9
 returns : tie.Need-returns
 returns c = (none-past _ _ _ _ (c .if1 .taken), (omega arith, omega arith))
 
--- src/scan.rt:39:9
 returns-2 : tie.Need-returns-2
 returns-2 c = (none-left _ _ _ _ (c .before .if1 .left) (c .if2 .taken), (omega arith, omega arith))
 
--- src/scan.rt:41:17
 sub-if3 : tie.Need-sub-if3
 sub-if3 c = search needs
 
--- src/scan.rt:42:9
 returns-3 : tie.Need-returns-3
 returns-3 c = (some-left _ _ _ _ (c .before .before .if1 .left) (c .if3 .taken), (omega arith, omega arith))
 
--- src/scan.rt:44:5
 sub-result : tie.Need-sub-result
 sub-result c = search needs
 
--- src/scan.rt:32:1
 returns-4 : tie.Need-returns-4
 returns-4 c = (all-left _ _ _ _ (c .before .before .if1 .left) (c .if3 .left), (omega arith, omega arith))
 

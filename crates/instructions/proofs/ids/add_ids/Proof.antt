@@ -10,7 +10,7 @@ use Rattle.instructions.proofs.ids.add_ids.Tie as tie
 use Rattle.instructions.proofs.ids.add_ids.Reads as reads
 use Rattle.instructions.proofs.ids.add_ids.Lts as lts
 use Rattle.cells.proofs.at8.Reads as at8-reads
-use Rattle.cells.proofs.ids.add_id.Reads as add-id-reads
+use Rattle.id_sets.proofs.add_id.Reads as add-id-reads
 
 abbrev Inv-loop : tie.InvT-loop
 Inv-loop listed ids₀ i₀ ids i = (length ids ≡ length ids₀) × ((i ≤ length listed) × (withIds ids₀ listed ≡ withIds ids (drop i listed)))

@@ -1,5 +1,5 @@
 use mathlib.Core.Path.{sym, _∙_}
-use Rattle.rules.specs.Operators.{valueHolds}
+use Rattle.operators.specs.Operators.{valueHolds}
 use Rattle.rules.proofs.OutlineTurns.{found-is}
 use borrow.Author.Needs.{needs}
 use Rattle.rules.proofs.attribute_matcher.value_matches.Statement.{statement}

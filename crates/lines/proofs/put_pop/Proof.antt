@@ -1,0 +1,22 @@
+use borrow.Author.Needs.{needs}
+use Rattle.lines.proofs.put_pop.Statement.{statement}
+use Rattle.lines.proofs.put_pop.Tie as tie
+use Rattle.lines.proofs.put_pop.Reads as reads
+use Rattle.lines.proofs.put_pop.Lts as lts
+use Rattle.lines.proofs.put_number.Reads as put-number-reads
+
+slice-aggregate-put-number : tie.Need-slice-aggregate-put-number
+slice-aggregate-put-number c = search needs
+
+put-number-requires : tie.Need-put-number-requires
+put-number-requires c κs = search needs
+
+same-length : tie.Need-same-length
+same-length c = search needs
+
+returns : tie.Need-returns
+returns c = search needs
+
+pub put-pop-spec : {M : Type 1} → statement M
+put-pop-spec =
+    tie.close (tie.spec slice-aggregate-put-number put-number-requires same-length returns)

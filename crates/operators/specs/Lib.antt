@@ -1,0 +1,4 @@
+pub mod Operators
+pub mod Standard
+pub mod SplitLaws
+pub mod OperatorLaws
