@@ -9,7 +9,7 @@ use borrow.Author.Tests.{eq-eqb, ne-eqb}
 use lib.ListN.{length, getD, drop, drop-of-length-le}
 use lib.Seq.{drop-cons}
 use Rattle.cells.specs.Stretches.{cellsFrom, length-cells}
-use Rattle.names.specs.BytesLaws.{equal-ne}
+use Rattle.letters.specs.BytesLaws.{equal-ne}
 use Rattle.stack.specs.Stores.{holdsName, findPair, pairOf, pairNameAt, pairAt, rowWord, opens, pairsTop}
 
 -- ---- comparing a name

@@ -8,7 +8,7 @@ use lib.ListN.{length, getD, take, length-map}
 use lib.Dec.{eqb, ltb, leb}
 use borrow.Author.Tests.{le-ltb, lt-leb, le-leb, ltb-true, ltb-false, leb-false, eqb-true, eqb-false, eq-eqb, ne-eqb}
 use Rattle.cells.specs.Stretches.{cellsFrom, written, length-cells, get-in}
-use Rattle.names.specs.Bytes.{lowerOf}
+use Rattle.letters.specs.Bytes.{lowerOf}
 use Rattle.names.specs.Names.{voidName}
 use Rattle.rules.specs.Attributes.{goodOutlines}
 use Rattle.sheet.specs.Parser.{nodeCount}

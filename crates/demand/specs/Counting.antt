@@ -9,7 +9,7 @@ use lib.ListN.{length, getD}
 use lib.Dec.{eqb}
 use borrow.Author.Tests.{ltb-true, ltb-false, eqb-true, eqb-false}
 use Rattle.cells.specs.Stretches.{cellsFrom, written, length-written, cells-below, cells-in}
-use Rattle.names.specs.Bytes.{equalBytes}
+use Rattle.letters.specs.Bytes.{equalBytes}
 use Rattle.stack.specs.Stores as stack
 use Rattle.stack.specs.Stores.{Stores, stores, openLimit, pairLimit, parentLimit, ancestorLimit, nameLimit, rowsSize, namesSize, idsSize, nodesSize, rowAt, pairAt, nameAt, pairNameAt, rowWord, countLimit, holdsName, findPair, pairOf, timesOf, countedRows, countedNames, counted}
 use Rattle.stack.specs.Laws.{one-more}

@@ -9,7 +9,7 @@ use lib.ListN.{length, getD, take}
 use lib.Dec.{eqb, ltb, leb}
 use borrow.Author.Tests.{lt-ltb, le-ltb, ne-eqb}
 use Rattle.cells.specs.Stretches.{cellsFrom, cells-cat, length-cells}
-use Rattle.names.specs.Bytes.{equalBytes}
+use Rattle.letters.specs.Bytes.{equalBytes}
 use Rattle.sheet.specs.Parser.{nodeCount, rootCount}
 use Rattle.cursors.specs.Cursors as cursors
 use Rattle.cursors.specs.Cursors.{ats, hangs, leftIn}

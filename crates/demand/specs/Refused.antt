@@ -7,7 +7,7 @@ use Prim.Native.Nat.{ℕ, _*_}
 use native.Mathlib.Omega.{arith}
 use lib.Dec.{T, eqb, ltb}
 use lib.ListN.{length}
-use Rattle.names.specs.Bytes.{lowerOf}
+use Rattle.letters.specs.Bytes.{lowerOf}
 use Rattle.names.specs.Names.{voidName}
 use Rattle.sheet.specs.Parser.{parseSheet}
 use Rattle.compiler.specs.Compiler.{compiledOf}

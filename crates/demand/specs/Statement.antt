@@ -5,7 +5,7 @@ use mathlib.Core.List.{List, [], _∷_, map}
 use Prim.Native.Nat.{ℕ, zero, suc, _+_, _*_, _<_, _≤_}
 use lib.ListN.{length, getD}
 use Rattle.cells.specs.Stretches.{cellsFrom}
-use Rattle.names.specs.Bytes.{lowerOf}
+use Rattle.letters.specs.Bytes.{lowerOf}
 use Rattle.names.specs.Names.{voidName}
 use Rattle.rules.specs.Attributes.{goodOutlines}
 use Rattle.node_records.specs.Records.{NodeRecord}

@@ -8,7 +8,7 @@ use borrow.Author.Tests.{lt-ltb, le-ltb, ltb-true, ltb-false, eq-eqb, ne-eqb}
 use lib.Dec.{eqb, ltb}
 use lib.ListN.{length, take, drop, length-map}
 use Rattle.cells.specs.Stretches.{written}
-use Rattle.names.specs.Bytes.{lowerOf}
+use Rattle.letters.specs.Bytes.{lowerOf}
 use Rattle.stack.specs.Stores.{Stores, opens, poppedCount, poppedRows, poppedIds, topIds}
 use Rattle.shapes.specs.Shapes.{stateRefusal}
 use Rattle.weighing.specs.Weighing.{endRefusal}

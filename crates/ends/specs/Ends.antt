@@ -4,7 +4,7 @@ use mathlib.Core.List.{List, map}
 use Prim.Native.Nat.{ℕ, _*_}
 use lib.Dec.{eqb, ltb}
 use lib.ListN.{length}
-use Rattle.names.specs.Bytes.{lowerOf}
+use Rattle.letters.specs.Bytes.{lowerOf}
 use Rattle.stack.specs.Stores.{Stores, idWords, opens, poppedCount, poppedRows, poppedIds, topIds}
 use Rattle.shapes.specs.Shapes.{stateRefusal}
 use Rattle.weighing.specs.Weighing.{endRefusal}

@@ -1,3 +1,2 @@
-pub mod Candidates
 pub mod ScanTurns
 pub mod TestBudget

@@ -14,7 +14,8 @@ use Rattle.exec.specs.declared.scan.Live.{Live}
 use Rattle.cursors.specs.Cursors.{cursorOf, afterCursor, ats}
 use Rattle.instructions.specs.Instructions.{keyFits, tagTestsPass, tagPasses, attributePasses, asks}
 use Rattle.exec.specs.Scans.{keep, Sought, over, stopped, foundToo, seek, foundIn, answerFrom, live, tagScan, allPass, attributeScan}
-use Rattle.exec.specs.Searching.{fromKeyed, Within}
+use Rattle.candidates.specs.Candidates.{fromKeyed}
+use Rattle.exec.specs.Searching.{Within}
 
 -- ---- instructions whose key does not fit change nothing
 

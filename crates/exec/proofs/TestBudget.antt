@@ -10,12 +10,13 @@ use lib.Dec.{ltb}
 use lib.ListN.{length, take}
 use Rattle.cursors.specs.declared.Cursor.{Cursor}
 use Rattle.cursors.specs.declared.Ranges.{Ranges}
-use Rattle.exec.specs.declared.scan.Candidate.{Candidate}
+use Rattle.candidates.specs.declared.Candidate.{Candidate}
 use Rattle.exec.specs.declared.scan.Live.{Live}
 use Rattle.instructions.specs.Instructions.{rowWord, keyFits, testsEnd, tagCount, attributeCount}
 use Rattle.cursors.specs.Cursors.{afterCursor, rest}
 use Rattle.exec.specs.Scans.{testsTaken, withinTests, live}
-use Rattle.exec.specs.Searching.{fromKeyed, Reached, Within}
+use Rattle.candidates.specs.Candidates.{fromKeyed, Reached}
+use Rattle.exec.specs.Searching.{Within}
 
 module _ (sheet program : List ℕ) (key : ℕ) where
   abbrev testsOf : ℕ → ℕ

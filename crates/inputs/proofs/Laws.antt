@@ -12,7 +12,7 @@ use Rattle.making.specs.declared.Made.{Made}
 use Rattle.records.specs.Sheets.{sheetEnd}
 use Rattle.stack.specs.Stores.{Stores, stores}
 use Rattle.trace.specs.Run.{ran, feedOf}
-use Rattle.trace.specs.declared.Fed.{Fed}
+use Rattle.block_ends.specs.declared.Fed.{Fed}
 use Rattle.inputs.specs.Inputs.{wholeRun, wholeBy, wholeOf}
 
 module _ (input : List ℕ) (n : ℕ) (e : n ≡ sheetEnd input) (program out : List ℕ) (s : Stores) (made : Made) (program₁ rows₁ : List ℕ) (f : fresh made program₁ rows₁ ≡ freshCall (part input 0 n) false program s) where

@@ -5,7 +5,7 @@ use mathlib.Core.List.{List, map}
 use Prim.Native.Nat.{ℕ, _-_, _≤_}
 use lib.ListN.{length, getD, take, drop, length-map}
 use Rattle.cells.specs.Stretches.{written, length-cells}
-use Rattle.names.specs.Bytes.{lowerOf}
+use Rattle.letters.specs.Bytes.{lowerOf}
 use Rattle.names.specs.Names.{voidName}
 use Rattle.stack.specs.Stores.{Stores, heldName}
 use Rattle.shapes.specs.Shapes.{esiOn, stateRefusal}

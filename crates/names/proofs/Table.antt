@@ -13,8 +13,8 @@ use lib.Seq.{drop-cons}
 use mir.Facts.{and-yes}
 use mir.Syntax.{w64}
 use mir.Val.{Fits}
-use Rattle.names.specs.Bytes.{lowerOf, sameBytes, equalBytes}
-use Rattle.names.specs.BytesLaws.{equal→eq}
+use Rattle.letters.specs.Bytes.{lowerOf, sameBytes, equalBytes}
+use Rattle.letters.specs.BytesLaws.{equal→eq}
 use Rattle.names.specs.Names.{voidNames, amongNames, hashOf, nameKey}
 
 -- the test f passes at each place below n

@@ -1,4 +1,2 @@
-pub mod Bytes
 pub mod Names
-pub mod BytesLaws
 pub mod NameLaws

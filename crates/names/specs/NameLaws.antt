@@ -7,8 +7,8 @@ use Prim.Native.Nat.{ℕ, _+_, _%_, _^_, _<_}
 use native.Mathlib.Omega.{arith}
 use borrow.Author.Tests.{leb-true, lt-leb}
 use lib.Dec.{T, leb}
-use Rattle.names.specs.Bytes.{lowerOf, fold, sameBytes}
-use Rattle.names.specs.BytesLaws.{and-law, or-law, either, fold-false, same-law, exact-law}
+use Rattle.letters.specs.Bytes.{lowerOf, fold, sameBytes}
+use Rattle.letters.specs.BytesLaws.{and-law, or-law, either, fold-false, same-law, exact-law}
 use Rattle.names.specs.Names.{sameName, voidNames, esiNames, amongNames, voidName, hashOf, nameKey}
 
 -- Names are the same exactly when they are equal after lower-casing.

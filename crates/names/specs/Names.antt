@@ -2,7 +2,7 @@
 use mathlib.Core.Bool.{Bool, true, false, _&&_, _||_}
 use mathlib.Core.List.{List, [], _∷_, map}
 use Prim.Native.Nat.{ℕ, _+_, _*_, _%_, _^_}
-use Rattle.names.specs.Bytes.{lowerOf, sameBytes}
+use Rattle.letters.specs.Bytes.{lowerOf, sameBytes}
 
 -- Names are equal when equal after ASCII lower-casing.
 abbrev pub sameName : List ℕ → List ℕ → Bool

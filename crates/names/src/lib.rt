@@ -1,8 +1,6 @@
 //! Names of tags: equality, void names, the name key (01, section 3).
-pub mod bytes;
-
-use crate::bytes::lower;
-use crate::bytes::same;
+use letters::lower;
+use letters::same;
 ghost use mathlib.Core.Path.{_≡_};
 ghost use mathlib.Core.Bool.{true, false};
 ghost use Rattle.names.specs.Names.{sameName, amongNames, voidNames, esiNames, voidName, nameKey};

@@ -4,7 +4,7 @@ use mathlib.Core.Bool.{Bool, true, false}
 use mathlib.Core.List.{List, [], _∷_}
 use lib.IntN.{pos, negsuc}
 use Rattle.nth.specs.Nth.{nthHolds}
-use Rattle.names.specs.Bytes.{sameBytes}
+use Rattle.letters.specs.Bytes.{sameBytes}
 use Rattle.operators.specs.Operators.{emptyBytes, beginsWith, prefixHolds, suffixHolds, dashHolds, containsBytes, substringHolds, parts, split, somePart, includesHolds}
 use Rattle.node_tests.specs.Tests.{ignoresCase}
 

@@ -7,8 +7,8 @@ use mathlib.Core.Option.{Option, none, some}
 use Prim.Native.Nat.{ℕ}
 use lib.Dec.{T}
 use lib.IntN.{ℤ, pos}
-use Rattle.names.specs.Bytes.{fold, equalBytes}
-use Rattle.names.specs.BytesLaws.{fold-false, equal→eq, equal-refl}
+use Rattle.letters.specs.Bytes.{fold, equalBytes}
+use Rattle.letters.specs.BytesLaws.{fold-false, equal→eq, equal-refl}
 use Rattle.nth.specs.Nth.{Nth}
 use Rattle.nth.specs.NthLaws.{nth-law}
 use Rattle.names.specs.NameLaws.{fold-twice, name-law}

@@ -6,7 +6,7 @@ use lib.Dec.{eqb, ltb}
 use lib.IntN.{ℤ, pos}
 use lib.ListN.{length, getD}
 use Rattle.cells.specs.Numbers.{part, i32At}
-use Rattle.names.specs.Bytes.{fold}
+use Rattle.letters.specs.Bytes.{fold}
 use Rattle.names.specs.Names.{sameName}
 use Rattle.nth.specs.Nth.{nthHolds}
 use Rattle.rules.specs.Attributes.{Attribute, lookup, isThere}

@@ -9,8 +9,8 @@ use native.Mathlib.Omega.{arith}
 use lib.ListN.{length, getD, take, drop, drop-of-length-le, length-drop}
 use lib.Seq.{drop-cons, take-all, take-nil, take-suc, getD-drop}
 use Rattle.cells.specs.Numbers.{part}
-use Rattle.names.specs.Bytes.{sameBytes, spaceByte}
-use Rattle.names.specs.BytesLaws.{same-long}
+use Rattle.letters.specs.Bytes.{sameBytes, spaceByte}
+use Rattle.letters.specs.BytesLaws.{same-long}
 use Rattle.operators.specs.Operators.{emptyBytes, beginsWith, containsBytes, parts, somePart}
 
 pub empty-yes : (v : List ℕ) → length v ≡ 0 → emptyBytes v ≡ true

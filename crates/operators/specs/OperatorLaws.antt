@@ -9,8 +9,8 @@ use borrow.Author.Tests.{eq-eqb, ne-eqb, leb-true}
 use lib.Dec.{T, eqb, leb, eqb→eq}
 use lib.ListN.{length, getD, take, drop, length-map, length-append, take-append-drop, List·getD-map}
 use lib.Seq.{drop-cons, take-at, drop-at, getD-at}
-use Rattle.names.specs.Bytes.{sameBytes, foldByte, fold, spaceByte}
-use Rattle.names.specs.BytesLaws.{and-law, or-law, either, holds, same-law}
+use Rattle.letters.specs.Bytes.{sameBytes, foldByte, fold, spaceByte}
+use Rattle.letters.specs.BytesLaws.{and-law, or-law, either, holds, same-law}
 use Rattle.operators.specs.Operators.{emptyBytes, equalHolds, beginsWith, prefixHolds, suffixHolds, dashHolds, containsBytes, substringHolds, split, somePart, includesHolds}
 use Rattle.operators.specs.SplitLaws.{part-law}
 use Rattle.operators.specs.Standard.{Equal, Prefix, Suffix, Substring, Dash, Clear, Part, Includes}

@@ -6,7 +6,7 @@ use mathlib.Core.Option.{Option, none, some}
 use Prim.Native.Nat.{ℕ, _-_}
 use lib.Dec.{eqb}
 use lib.ListN.{length, take, drop, getD}
-use Rattle.names.specs.Bytes.{sameBytes, spaceByte}
+use Rattle.letters.specs.Bytes.{sameBytes, spaceByte}
 use Rattle.operators.specs.declared.Operator.{Operator}
 use Rattle.operators.specs.declared.Operator.the-variants.{Equal, Includes, Dash, Prefix, Suffix, Substring}
 

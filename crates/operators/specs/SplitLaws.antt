@@ -4,7 +4,7 @@ use mathlib.Core.Logic.{_↔_, ⊎-elim}
 use mathlib.Core.Bool.{Bool, true, false, cond}
 use mathlib.Core.List.{List, [], _∷_, _++_, append-nil, append-assoc, List·Memᴰ, List·Memᴰ·head, List·Memᴰ·tail, List·Memᴰ·cases-cons, List·Memᴰ·eq-of-singleton}
 use Prim.Native.Nat.{ℕ}
-use Rattle.names.specs.Bytes.{spaceByte}
+use Rattle.letters.specs.Bytes.{spaceByte}
 use Rattle.operators.specs.Operators.{parts, split}
 use Rattle.operators.specs.Standard.{Clear, Before, After, Part}
 

@@ -5,7 +5,7 @@ use mathlib.Core.Logic.{_⊎_}
 use mathlib.Core.Bool.{Bool, true, false}
 use mathlib.Core.List.{List, [], _∷_, _++_}
 use Prim.Native.Nat.{ℕ}
-use Rattle.names.specs.Bytes.{fold, spaceByte}
+use Rattle.letters.specs.Bytes.{fold, spaceByte}
 
 -- [att=val]: the value is exactly val.
 unfoldable pub Equal : Bool → List ℕ → List ℕ → Type 0

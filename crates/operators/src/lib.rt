@@ -1,7 +1,7 @@
 //! The operators of attribute tests: a value compared with an operand (01, section 3).
 use cells::part_of;
-use names::bytes::is_attr_whitespace;
-use names::bytes::same;
+use letters::is_attr_whitespace;
+use letters::same;
 ghost use mathlib.Core.Path.{_≡_};
 ghost use Rattle.operators.specs.Operators.{beginsWith, prefixHolds, suffixHolds, dashHolds, substringHolds, includesHolds, operatorHolds};
 

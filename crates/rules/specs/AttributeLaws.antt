@@ -7,8 +7,8 @@ use mathlib.Core.Option.{some}
 use Prim.Native.Nat.{ℕ}
 use native.Mathlib.Omega.{arith}
 use lib.Dec.{T}
-use Rattle.names.specs.Bytes.{fold, sameBytes}
-use Rattle.names.specs.BytesLaws.{holds, exact-law}
+use Rattle.letters.specs.Bytes.{fold, sameBytes}
+use Rattle.letters.specs.BytesLaws.{holds, exact-law}
 use Rattle.rules.specs.Attributes.{Attribute, lookup, isThere}
 
 -- The value is that of the first attribute whose lower-cased name is the wanted one.

@@ -6,7 +6,7 @@ use Prim.Native.Nat.{ℕ}
 use lib.Dec.{leb}
 use lib.ListN.{length}
 use Rattle.cells.specs.Numbers.{part}
-use Rattle.names.specs.Bytes.{sameBytes}
+use Rattle.letters.specs.Bytes.{sameBytes}
 use Rattle.rules.specs.declared.attribute_matcher.Found.{Found}
 
 -- An attribute is its name and its value.

@@ -3,7 +3,7 @@ use mathlib.Core.Path.{_≡_}
 use mathlib.Core.Bool.{Bool, true}
 use mathlib.Core.List.{List, List·Memᴰ}
 use Prim.Native.Nat.{ℕ}
-use Rattle.names.specs.Bytes.{fold}
+use Rattle.letters.specs.Bytes.{fold}
 use Rattle.rules.specs.Attributes.{Attribute}
 
 -- [att]: the attribute is there, whatever its value; names ignore ASCII case, as in HTML.

@@ -1,11 +1,11 @@
 //! Attributes: the lookup by name, and the value found against an operand.
 use cells::at32;
 use cells::part_of;
-use names::bytes::same;
+use letters::same;
 use operators::Operator;
 use operators::compare;
 ghost use mathlib.Core.Path.{_≡_};
-ghost use Rattle.names.specs.Bytes.{fold};
+ghost use Rattle.letters.specs.Bytes.{fold};
 ghost use Rattle.rules.specs.Attributes.{liesWithin, wellFormed, goodOutlines, findIn, lookup, attributesOf, isThere};
 ghost use Rattle.operators.specs.Operators.{valueHolds};
 

@@ -5,7 +5,7 @@ use Prim.Native.Nat.{ℕ, zero, suc, _+_, _-_, _*_}
 use lib.ListN.{length, getD}
 use lib.Dec.{eqb, ltb, leb}
 use Rattle.cells.specs.Stretches.{cellsFrom, written}
-use Rattle.names.specs.Bytes.{equalBytes}
+use Rattle.letters.specs.Bytes.{equalBytes}
 
 -- ---- Sizes, limits and addresses: all that changes with them stands here and in the constants of src/lib.rt.
 

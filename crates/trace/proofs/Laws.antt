@@ -1,35 +1,25 @@
 -- Each way out of a run over a block.
 use mathlib.Core.Bool.{Bool, true, false, cond}
 use mathlib.Core.List.{List, [], _∷_}
-use mathlib.Core.Path.{_≡_, refl, sym, ap, _∙_, subst}
+use mathlib.Core.Path.{_≡_, refl, sym, _∙_, subst}
 use Prim.Native.Nat.{ℕ, zero, suc, _+_, _-_, _≤_, _<_}
 use native.Mathlib.Numerals.{sub-one}
 use native.Mathlib.Omega.{arith}
-use borrow.Author.Tests.{lt-ltb, le-ltb, ltb-false, lt-leb, le-leb, eq-eqb, ne-eqb}
+use borrow.Author.Tests.{lt-ltb, le-ltb, ltb-false, lt-leb, le-leb}
 use lib.Dec.{ltb}
-use lib.ListN.{length, getD}
+use lib.ListN.{length}
 use Rattle.cells.specs.Numbers.{part, be16}
-use Rattle.lines.specs.Lines.{badTraceLine}
 use Rattle.records.specs.Records.{recordEnd}
 use Rattle.records.specs.declared.Cut.{Cut}
 use Rattle.stack.specs.Stores.{Stores}
 use Rattle.answers.specs.Answers.{turnOf}
 use Rattle.replies.specs.Replies.{Answered, answered, Within, saying}
-use Rattle.trace.specs.Run.{fed, Ran, ran, badFed, badOut, badRun, cutFed, cutOut, onCut, onSaid, answersFrom, beginOf, feedBy, feedOf, Inside}
+use Rattle.block_ends.specs.BlockEnds.{fed, badFed, badOut, cutFed, cutOut, beginOf, Inside}
+use Rattle.trace.specs.Run.{Ran, ran, onCut, onSaid, answersFrom, feedBy, feedOf}
 use Rattle.replies.specs.declared.Said.{Said}
-use Rattle.trace.specs.declared.Begin.{Begin}
-use Rattle.trace.specs.declared.Fed.{Fed}
-use Rattle.trace.specs.declared.Halt.{Halt}
-
-pub bad-fed : (place at wrote w : ℕ) → w ≡ wrote + length (badTraceLine (place + at)) → fed at w Halt.Over ≡ badFed place at wrote
-bad-fed place at wrote w e = ap (λ (k : ℕ). fed at k Halt.Over) e
-
-module _ (last : Bool) (place at wrote : ℕ) where
-  pub cut-last : last ≡ true → (r : Fed) (out o : List ℕ) → r ≡ badFed place at wrote → o ≡ badOut place at wrote out → (r ≡ cutFed last place at wrote) × (o ≡ cutOut last place at wrote out)
-  cut-last e r out o a b = rw e (a, b)
-
-  pub cut-more : last ≡ false → (out : List ℕ) → (fed at wrote Halt.Hungry ≡ cutFed last place at wrote) × (out ≡ cutOut last place at wrote out)
-  cut-more e out = rw e (refl, refl)
+use Rattle.block_ends.specs.declared.Begin.{Begin}
+use Rattle.block_ends.specs.declared.Fed.{Fed}
+use Rattle.block_ends.specs.declared.Halt.{Halt}
 
 -- a whole record lies in its block
 pub end-bounds : (block : List ℕ) (at : ℕ) (cut : Cut) (end : ℕ) → cut ≡ recordEnd block at → cut ≡ Cut.Whole end → (at + 2 ≤ end) × (end ≤ length block)
@@ -78,24 +68,6 @@ module _ (sheet program block : List ℕ) (last : Bool) (place : ℕ) where
   run-more (suc n) at wrote out s p h g cut end e f body q said next o₁ s₁ t u = rw sub-one (simp (lt-leb _ _ h, le-ltb _ _ g, ← e, f, ← q, ← t, u))
 
 -- ---- the version, then the records
-
-module _ (block : List ℕ) (last : Bool) (place : ℕ) where
-  pub begin-later : 0 < place → Begin.At 0 ≡ beginOf block last place
-  unfolding beginOf
-  begin-later h = simp (lt-ltb _ _ h)
-
-  module _ (h : place ≤ 0) where
-    pub begin-nothing : length block ≡ 0 → Begin.Not last ≡ beginOf block last place
-    unfolding beginOf
-    begin-nothing e = simp (le-ltb _ _ h, eq-eqb _ _ e)
-
-    pub begin-version : (length block ≡ 0 → ⊥) → (getD block 0 0 ≡ 1 → ⊥) → Begin.Not true ≡ beginOf block last place
-    unfolding beginOf
-    begin-version e v = simp (le-ltb _ _ h, ne-eqb _ _ e, ne-eqb _ _ v)
-
-    pub begin-first : (length block ≡ 0 → ⊥) → getD block 0 0 ≡ 1 → Begin.At 1 ≡ beginOf block last place
-    unfolding beginOf
-    begin-first e v = simp (le-ltb _ _ h, ne-eqb _ _ e, eq-eqb _ _ v)
 
 module _ (sheet program block : List ℕ) (last : Bool) (place : ℕ) (out : List ℕ) (s : Stores) (b : Begin) (e : b ≡ beginOf block last place) where
   pub feed-at : (first : ℕ) → b ≡ Begin.At first → (x : Ran) → x ≡ answersFrom sheet program block last place (length block) first 0 out s → x ≡ feedOf sheet program block last place out s

@@ -13,12 +13,10 @@ use Rattle.stack.specs.Stores.{Stores}
 use Rattle.answers.specs.Answers.{turnOf}
 use Rattle.replies.specs.Replies.{Answered, saying}
 use Rattle.replies.specs.declared.Said.{Said}
-use Rattle.trace.specs.declared.Begin.{Begin}
-use Rattle.trace.specs.declared.Fed.{Fed}
-use Rattle.trace.specs.declared.Halt.{Halt}
-
-abbrev pub fed : (used wrote : ℕ) → Halt → Fed
-fed used wrote halt = record { used = used; wrote = wrote; halt = halt }
+use Rattle.block_ends.specs.BlockEnds.{fed, badFed, badOut, cutFed, cutOut, beginOf}
+use Rattle.block_ends.specs.declared.Begin.{Begin}
+use Rattle.block_ends.specs.declared.Fed.{Fed}
+use Rattle.block_ends.specs.declared.Halt.{Halt}
 
 -- How the run over the block ended, the buffer of lines and the stores after it.
 pub record Ran : Type 0 where
@@ -29,23 +27,11 @@ pub record Ran : Type 0 where
 abbrev pub ran : Fed → List ℕ → Stores → Ran
 ran f out after = record { fed = f; out = out; after = after }
 
--- The last line: K counts from the trace's first byte, and the block stands at a place of the trace.
-abbrev pub badFed : (place at wrote : ℕ) → Fed
-badFed place at wrote = fed at (wrote + length (badTraceLine (place + at))) Halt.Over
-
-abbrev pub badOut : (place at wrote : ℕ) → (out : List ℕ) → List ℕ
-badOut place at wrote out = written out wrote (badTraceLine (place + at))
-
+-- The last line, and the stores as they are.
 abbrev pub badRun : (place at wrote : ℕ) → (out : List ℕ) → Stores → Ran
 badRun place at wrote out s = ran (badFed place at wrote) (badOut place at wrote out) s
 
--- What is cut short is faulty only where no bytes come after it.
-abbrev pub cutFed : (last : Bool) → (place at wrote : ℕ) → Fed
-cutFed last place at wrote = cond last (badFed place at wrote) (fed at wrote Halt.Hungry)
-
-abbrev pub cutOut : (last : Bool) → (place at wrote : ℕ) → (out : List ℕ) → List ℕ
-cutOut last place at wrote out = cond last (badOut place at wrote out) out
-
+-- What is cut short, and the stores as they are.
 abbrev pub cutRun : (last : Bool) → (place at wrote : ℕ) → (out : List ℕ) → Stores → Ran
 cutRun last place at wrote out s = ran (cutFed last place at wrote) (cutOut last place at wrote out) s
 
@@ -59,18 +45,6 @@ onSaid a bad go = by (a .said)
     by : Said → Ran
     by (Said.Line next) = go next (a .out) (a .after)
     by Said.Faulty = bad (a .out) (a .after)
-
--- The version stands at the trace's first byte.
-unfoldable pub beginOf : (block : List ℕ) → (last : Bool) → (place : ℕ) → Begin
-beginOf block last place =
-    cond (ltb 0 place) (Begin.At 0)
-    (cond (eqb (length block) 0) (Begin.Not last)
-    (cond (not (eqb (getD block 0 0) 1)) (Begin.Not true) (Begin.At 1)))
-
--- A first record begins by n.
-abbrev pub Inside : ℕ → Begin → Type 0
-Inside n (Begin.At first) = first ≤ n
-Inside n (Begin.Not faulty) = Unit {0}
 
 -- The block stands at `place` of the trace; `last`: no bytes come after it.
 module _ (sheet program block : List ℕ) (last : Bool) (place : ℕ) where

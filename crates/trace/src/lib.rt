@@ -1,7 +1,12 @@
 //! A trace answered record by record, block by block (01, section 8): whole records in, lines out.
 use answers::answer;
+use block_ends::Begin;
+use block_ends::Fed;
+use block_ends::Halt;
+use block_ends::bad_trace;
+use block_ends::cut_short;
+use block_ends::first_record;
 use cells::part_of;
-use lines::put_bad_trace;
 use records::Cut;
 use records::record_end;
 use replies::Said;
@@ -9,56 +14,7 @@ ghost use mathlib.Core.Path.{_≡_};
 ghost use Prim.Native.Nat.{_+_, _≤_};
 ghost use lib.ListN.{length};
 ghost use Rattle.stack.specs.Stores.{stores};
-ghost use Rattle.trace.specs.Run.{ran, badFed, badOut, cutFed, cutOut, beginOf, Inside, answersFrom, feedOf};
-
-// Why a run over a block ended: it wants more bytes, it wants room for lines, or the last word is said.
-pub enum Halt {
-    Hungry,
-    Full,
-    Over,
-}
-
-// How many bytes of the block are used and how many of the buffer are written.
-pub struct Fed {
-    pub used: usize,
-    pub wrote: usize,
-    pub halt: Halt,
-}
-
-// Where the first record of a block begins; or the trace has not begun, and whether that is a fault.
-pub enum Begin {
-    At(usize),
-    Not(bool),
-}
-
-// `bad trace` and the place of the record that starts at `at` of the block.
-fn bad_trace(out: &mut [u8], at: usize, wrote: usize, place: u64) -> Fed
-    requires { ⌜ (wrote ≤ 4294967296) × (at ≤ 4294967296) × (place ≤ 9223372036854775808) ⌝ }
-    ensures { λ r. ⌜ (r ≡ badFed place at wrote) × (now (out .exit) ≡ badOut place at wrote (now (out .entry))) ⌝ }
-    ensures { λ r. ⌜ (r .used ≡ at) × (r .wrote ≤ wrote + 34) ⌝ }
-{
-    Fed {
-        used: at,
-        wrote: put_bad_trace(out, wrote, place + at as u64),
-        halt: Halt::Over,
-    }
-}
-
-// A record that is cut, or no version: faulty where no bytes come after it.
-fn cut_short(out: &mut [u8], at: usize, wrote: usize, place: u64, last: bool) -> Fed
-    requires { ⌜ (wrote ≤ 4294967296) × (at ≤ 4294967296) × (place ≤ 9223372036854775808) ⌝ }
-    ensures { λ r. ⌜ (r ≡ cutFed last place at wrote) × (now (out .exit) ≡ cutOut last place at wrote (now (out .entry))) ⌝ }
-    ensures { λ r. ⌜ (r .used ≡ at) × (r .wrote ≤ wrote + 34) ⌝ }
-{
-    if last {
-        return bad_trace(out, at, wrote, place);
-    }
-    Fed {
-        used: at,
-        wrote: wrote,
-        halt: Halt::Hungry,
-    }
-}
+ghost use Rattle.trace.specs.Run.{ran, answersFrom, feedOf};
 
 // Answers the records of a block from `first` on.
 fn answer_records(
@@ -105,23 +61,6 @@ fn answer_records(
         wrote: wrote,
         halt: Halt::Hungry,
     }
-}
-
-// The version stands at the trace's first byte.
-fn first_record(block: &[u8], last: bool, place: u64) -> Begin
-    ensures { λ r. ⌜ r ≡ beginOf (now (block .entry)) last place ⌝ }
-    ensures { λ r. ⌜ Inside (length (now (block .entry))) r ⌝ }
-{
-    if 0 < place {
-        return Begin::At(0);
-    }
-    if block.len() == 0 {
-        return Begin::Not(last);
-    }
-    if block[0] != 1 {
-        return Begin::Not(true);
-    }
-    Begin::At(1)
 }
 
 // Answers the records of a block that stands at `place` of the trace; the version stands first. `last`: no bytes come after the block.

@@ -1,9 +1,9 @@
 //! A trace read, answered and written block by block: a cut record is kept for the next block (01, section 8).
+use block_ends::Fed;
+use block_ends::Halt;
 use libc::STDIN_FILENO;
 use libc::STDOUT_FILENO;
 use records::keep;
-use trace::Fed;
-use trace::Halt;
 use trace::feed;
 ghost use mathlib.Core.Path.{_≡_};
 ghost use Prim.Native.Nat.{_+_, _≤_};

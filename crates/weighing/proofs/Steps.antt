@@ -9,7 +9,7 @@ use lib.Dec.{ltb}
 use lib.ListN.{length, getD, drop, set, drop-of-length-le}
 use lib.Seq.{drop-cons}
 use Rattle.cells.specs.Stretches.{written}
-use Rattle.names.specs.Bytes.{lowerOf}
+use Rattle.letters.specs.Bytes.{lowerOf}
 use Rattle.stack.specs.Stores.{bearers, childBlock}
 
 -- the parents so far and the new ones

@@ -4,14 +4,14 @@ use cells::numbers::u16_at;
 use cells::put8;
 use counters::child_count;
 use counters::is_known;
-use names::bytes::lower;
+use letters::lower;
 use rules::attribute_matcher::good_outlines;
 use shapes::counts_types;
 use stack::blocks::count_parents;
 ghost use mathlib.Core.Path.{_≡_};
 ghost use mathlib.Core.List.{map};
 ghost use Rattle.cells.specs.Stretches.{written};
-ghost use Rattle.names.specs.Bytes.{lowerOf};
+ghost use Rattle.letters.specs.Bytes.{lowerOf};
 ghost use Rattle.weighing.specs.Weighing.{badName, tagRefusal, pairsFull, pushRefusal, attributesRefusal, endRefusal};
 ghost use Rattle.weighing.specs.Words.{cell};
 

@@ -15,7 +15,7 @@ same-length : tie.Need-same-length
 same-length c = search needs
 
 returns : tie.Need-returns
-returns c = search needs
+returns c = c .before .before .put-text .ensures
 
 pub put-attrs-spec : {M : Type 1} → statement M
 put-attrs-spec =

@@ -3,7 +3,7 @@ use mathlib.Core.List.{map}
 use Prim.Native.Nat.{_-_, _^_, _≤_, _<_}
 use native.Mathlib.Omega.{arith}
 use lib.ListN.{length, drop}
-use Rattle.names.specs.Bytes.{lowerOf}
+use Rattle.letters.specs.Bytes.{lowerOf}
 use Rattle.names.specs.Names.{hashOf}
 use Rattle.names.proofs.Table.{key-more, key-end, key-is}
 use borrow.Author.Needs.{needs}

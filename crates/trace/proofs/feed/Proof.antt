@@ -6,8 +6,8 @@ use Rattle.trace.proofs.feed.Tie as tie
 use Rattle.trace.proofs.feed.Reads as reads
 use Rattle.trace.proofs.feed.Lts as lts
 use Rattle.trace.proofs.answer_records.Reads as answer-records-reads
-use Rattle.trace.proofs.cut_short.Reads as cut-short-reads
-use Rattle.trace.proofs.first_record.Reads as first-record-reads
+use Rattle.block_ends.proofs.cut_short.Reads as cut-short-reads
+use Rattle.block_ends.proofs.first_record.Reads as first-record-reads
 
 first-record-requires : tie.Need-first-record-requires
 first-record-requires c κs = search needs

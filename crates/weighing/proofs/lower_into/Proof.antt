@@ -4,7 +4,7 @@ use Prim.Native.Nat.{_-_, _≤_}
 use native.Mathlib.Omega.{arith}
 use lib.ListN.{length, drop}
 use Rattle.cells.specs.Stretches.{written}
-use Rattle.names.specs.Bytes.{lowerOf}
+use Rattle.letters.specs.Bytes.{lowerOf}
 use Rattle.weighing.proofs.Steps.{lower-more, lower-end}
 use borrow.Author.Needs.{needs}
 use Rattle.weighing.proofs.lower_into.Statement.{statement}
@@ -12,7 +12,7 @@ use Rattle.weighing.proofs.lower_into.Tie as tie
 use Rattle.weighing.proofs.lower_into.Reads as reads
 use Rattle.weighing.proofs.lower_into.Lts as lts
 use Rattle.cells.proofs.put8.Reads as put8-reads
-use Rattle.names.proofs.bytes.lower.Reads as lower-reads
+use Rattle.letters.proofs.lower.Reads as lower-reads
 
 abbrev Inv-loop : tie.InvT-loop
 Inv-loop name out₀ i₀ out i = (length out ≡ length out₀) × ((i ≤ length name) × (written out₀ 0 (map lowerOf name) ≡ written out i (map lowerOf (drop i name))))

@@ -5,7 +5,7 @@ use Rattle.exec.proofs.scan.next_live.Statement.{statement}
 use Rattle.exec.proofs.scan.next_live.Tie as tie
 use Rattle.exec.proofs.scan.next_live.Reads as reads
 use Rattle.exec.proofs.scan.next_live.Lts as lts
-use Rattle.exec.proofs.scan.next_candidate.Reads as next-candidate-reads
+use Rattle.candidates.proofs.next_candidate.Reads as next-candidate-reads
 use Rattle.instructions.proofs.instruction.tests_bytes.Reads as tests-bytes-reads
 
 next-candidate-requires : tie.Need-next-candidate-requires

@@ -5,7 +5,7 @@ use native.Mathlib.Omega.{arith}
 use lib.ListN.{length}
 use Rattle.rules.specs.Attributes.{attributesOf}
 use Rattle.exec.specs.Scans.{live, attributeScan}
-use Rattle.exec.specs.Searching.{fromKeyed}
+use Rattle.candidates.specs.Candidates.{fromKeyed}
 use Rattle.exec.proofs.ScanTurns.{At, reached-at, reached-over, Adding, adds-none, adds-one, adds-up, all-over, all-find, tag-refuses, attributes-refuse}
 use borrow.Author.Needs.{needs}
 use Rattle.exec.proofs.scan.scan_attributes.Statement.{statement}

@@ -4,7 +4,7 @@ use Prim.Native.Nat.{_+_, _-_, _≤_}
 use native.Mathlib.Omega.{arith}
 use lib.ListN.{length}
 use Rattle.exec.specs.Scans.{live, tagScan}
-use Rattle.exec.specs.Searching.{fromKeyed}
+use Rattle.candidates.specs.Candidates.{fromKeyed}
 use Rattle.exec.proofs.ScanTurns.{At, reached-at, reached-over, Going, goes-on, goes-found, goes-out, goes-stuck, tag-over, tag-fails, tag-stops, tag-finds}
 use borrow.Author.Needs.{needs}
 use Rattle.exec.proofs.scan.scan_tag.Statement.{statement}

@@ -2,7 +2,7 @@ use mathlib.Core.Path.{_≡_, refl, sym, _∙_}
 use Prim.Native.Nat.{_-_, _≤_}
 use native.Mathlib.Omega.{arith}
 use lib.ListN.{length, drop}
-use Rattle.names.specs.Bytes.{fold}
+use Rattle.letters.specs.Bytes.{fold}
 use Rattle.rules.specs.Attributes.{findIn}
 use Rattle.rules.proofs.OutlineTurns.{named, found-short, found-step}
 use borrow.Author.Needs.{needs}

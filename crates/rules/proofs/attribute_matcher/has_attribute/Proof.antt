@@ -1,5 +1,5 @@
 use mathlib.Core.Path.{ap}
-use Rattle.names.specs.BytesLaws.{fold-false}
+use Rattle.letters.specs.BytesLaws.{fold-false}
 use Rattle.rules.specs.Attributes.{isThere}
 use Rattle.rules.proofs.OutlineTurns.{found-is}
 use borrow.Author.Needs.{needs}
