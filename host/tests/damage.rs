@@ -1,12 +1,13 @@
-//! Calls on damaged stores: what is damaged, what is lent and which call comes is thrown by a generator that always throws the
-//! same. Each call is answered or refused, a refused one changes nothing and hands out no id, and every refusal comes up.
+//! Calls on damaged stores: what is damaged, what is lent and which call comes is thrown by two generators, side by side, that
+//! always throw the same. Each call is answered or refused, a refused one changes nothing and hands out no id, and every refusal
+//! comes up.
 //!
 //! `DAMAGED_CALLS=20000 DAMAGED_EXACT=1` makes so many calls, each on copies that end where the lent part ends: for valgrind.
 mod common;
 
 use common::{number_of, sheets, Call, Counts, Host, Inputs, Stores};
 use selectors_vm::calls;
-use std::env;
+use std::{env, thread};
 
 const CALLS: u64 = 1_100_000;
 
@@ -266,19 +267,17 @@ fn setting(name: &str) -> Option<u64> {
         .map(|value| value.parse().expect("a number"))
 }
 
-#[test]
-fn every_call_is_answered_and_a_refused_one_changes_nothing() {
+/// At least so many calls, with dice of their own; how each was answered.
+fn damaged_calls(mut dice: Dice, wanted: u64, exact: bool) -> Counts {
     let sheets = [
         sheets::mixed(),
         sheets::broad(5),
         sheets::broad(500),
         sheets::chain(),
     ];
-    let wanted = setting("DAMAGED_CALLS").unwrap_or(CALLS);
     let mut host = first();
     host.damaged = true;
-    host.exact = setting("DAMAGED_EXACT").is_some();
-    let mut dice = Dice(1);
+    host.exact = exact;
     let mut counts = Counts::none();
     let mut name = Vec::new();
     while counts.total() < wanted {
@@ -296,6 +295,20 @@ fn every_call_is_answered_and_a_refused_one_changes_nothing() {
             counts.add(number_of(host.call(throw_call(&mut dice, &name))));
         }
     }
+    counts
+}
+
+#[test]
+fn every_call_is_answered_and_a_refused_one_changes_nothing() {
+    let wanted = setting("DAMAGED_CALLS").unwrap_or(CALLS);
+    let exact = setting("DAMAGED_EXACT").is_some();
+    let half = wanted.div_ceil(2);
+    let counts = thread::scope(|scope| {
+        let other = scope.spawn(|| damaged_calls(Dice(2), half, exact));
+        let mut counts = damaged_calls(Dice(1), half, exact);
+        counts.add_all(&other.join().expect("the other half ends well"));
+        counts
+    });
     println!(
         "{} calls on damaged stores, by answer:\n{}",
         counts.total(),

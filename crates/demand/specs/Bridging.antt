@@ -25,10 +25,13 @@ use Rattle.ends.specs.Ends as ends
 use Rattle.ends.specs.declared.Popped.{Popped}
 use Rattle.ends.specs.declared.Top.{Top}
 use Rattle.weighing.specs.Words.{cell, noIds}
-use Rattle.tags.specs.Tags.{Outcome, accepted, whole, lowered, given}
+use Rattle.accepting.specs.Accepting as accepting
+use Rattle.accepting.specs.Accepting.{Outcome, accepted}
+use Rattle.tags.specs.Tags.{whole, lowered, given}
 use Rattle.making.specs.Making.{flagsOf}
 use Rattle.ends.specs.Ends.{Ended, topReply, popping, endCall, idSetCall}
-use Rattle.machine.specs.Calls.{startCall, attributesCall}
+use Rattle.starts.specs.Starts.{startCall}
+use Rattle.resumes.specs.Resumes.{attributesCall}
 use Rattle.course.specs.Course.{liveRanges, kindOf, isHtml, hasContent, heldCursor}
 use Rattle.meaning.specs.Lists.{keep, minus}
 use Rattle.meaning.specs.Document.{child, descendant}
@@ -232,13 +235,13 @@ module _ (C : Compiled) (esi : Bool) where
 
   abbrev wholeIf : ℕ → (old s : Stores) → List ℕ → Bool → List ℕ → Outcome
   wholeIf zero old s x content found = accepted sheet program s x content found
-  wholeIf (suc r) old s x content found = tags.refusing (suc r) old
+  wholeIf (suc r) old s x content found = accepting.refusing (suc r) old
 
   whole-is : (old s : Stores) (x : List ℕ) (content : Bool) (found : List ℕ) → whole sheet program old s x content found ≡ wholeIf (pushRefusal sheet program (s .rows) content found) old s x content found
   unfolding whole
   whole-is old s x content found = go (pushRefusal sheet program (s .rows) content found)
     where
-      go : (n : ℕ) → cond (not (eqb n 0)) (tags.refusing n old) (accepted sheet program s x content found) ≡ wholeIf n old s x content found
+      go : (n : ℕ) → cond (not (eqb n 0)) (accepting.refusing n old) (accepted sheet program s x content found) ≡ wholeIf n old s x content found
       go zero = refl
       go (suc r) = rw (ne-eqb (suc r) 0 (λ z. omega arith))
 
@@ -353,13 +356,13 @@ module _ (C : Compiled) (esi : Bool) where
 
   abbrev startIf : ℕ → Stores → List ℕ → ℕ → Outcome
   startIf zero s x kind = tags.begun sheet program s x kind (course.begin sheet program (s .rows) (s .names) (s .nodes) x kind)
-  startIf (suc r) s x kind = tags.refusing (suc r) s
+  startIf (suc r) s x kind = accepting.refusing (suc r) s
 
   start-is : (s : Stores) → Fine s → hd s 4 ≡ 0 → (n : ℕ) (name : List ℕ) → startCall sheet program s n name ≡ startIf (gate s n name) s (map lowerOf name) (kindOf n (voidName esi name))
   unfolding startCall lowered
   start-is s f z n name = rw (never-30 s (f .good) (f .header), esi-is C esi s (f .good) (f .header)) (go (tagRefusal (s .rows) n name) (pairsFull (s .rows) (s .names) (map lowerOf name)))
     where
-      go : (r : ℕ) (d : Bool) → cond (not (eqb r 0)) (tags.refusing r s) (cond d (tags.refusing 26 s) (startIf 0 s (map lowerOf name) (kindOf n (voidName esi name)))) ≡ startIf (cond (not (eqb r 0)) r (cond d 26 0)) s (map lowerOf name) (kindOf n (voidName esi name))
+      go : (r : ℕ) (d : Bool) → cond (not (eqb r 0)) (accepting.refusing r s) (cond d (accepting.refusing 26 s) (startIf 0 s (map lowerOf name) (kindOf n (voidName esi name)))) ≡ startIf (cond (not (eqb r 0)) r (cond d 26 0)) s (map lowerOf name) (kindOf n (voidName esi name))
       go zero true = refl
       go zero false = refl
       go (suc r) d = rw (ne-eqb (suc r) 0 (λ z. omega arith))
@@ -450,7 +453,7 @@ module _ (C : Compiled) (esi : Bool) where
         (subst (λ k. Met (endAnswered s (endIf r n out)) (close-if P refusing k (stackOf s) n)) e
         (closed out r n (popped-few s x) (λ q. end-room (badName name) (ltb (length out) (n * idWords)) n out refl q))))
 
-    attributes-early : (b : Bool) (input outlines : List ℕ) → attributesCall sheet program s b input outlines ≡ tags.refusing 23 s
+    attributes-early : (b : Bool) (input outlines : List ℕ) → attributesCall sheet program s b input outlines ≡ accepting.refusing 23 s
     unfolding attributesCall attributesRefusal
     attributes-early b input outlines = rw (never-30 s g h, z)
 
@@ -484,7 +487,7 @@ module _ (C : Compiled) (esi : Bool) where
     unfolding decode
     waiting = rw (ne-eqb (hd s 4) 0 n)
 
-    start-early : (m : ℕ) (name : List ℕ) → startCall sheet program s m name ≡ tags.refusing 22 s
+    start-early : (m : ℕ) (name : List ℕ) → startCall sheet program s m name ≡ accepting.refusing 22 s
     unfolding startCall tagRefusal
     start-early m name = rw (never-30 s (f .good) (f .header), ne-eqb (hd s 4) 0 n)
 
@@ -494,13 +497,13 @@ module _ (C : Compiled) (esi : Bool) where
 
     abbrev givenIf : ℕ → Bool → List ℕ → List ℕ → Outcome
     givenIf zero b input outlines = given sheet program s (heldName (s .rows) (s .names)) b input outlines
-    givenIf (suc r) b input outlines = tags.refusing (suc r) s
+    givenIf (suc r) b input outlines = accepting.refusing (suc r) s
 
     attributes-is : (b : Bool) (input outlines : List ℕ) → attributesCall sheet program s b input outlines ≡ givenIf (cond (not (goodOutlines input outlines)) 24 0) b input outlines
     unfolding attributesCall attributesRefusal
     attributes-is b input outlines = rw (never-30 s (f .good) (f .header), ne-eqb (hd s 4) 0 n) (go (not (goodOutlines input outlines)))
       where
-        go : (a : Bool) → cond (not (eqb (cond a 24 0) 0)) (tags.refusing (cond a 24 0) s) (givenIf 0 b input outlines) ≡ givenIf (cond a 24 0) b input outlines
+        go : (a : Bool) → cond (not (eqb (cond a 24 0) 0)) (accepting.refusing (cond a 24 0) s) (givenIf 0 b input outlines) ≡ givenIf (cond a 24 0) b input outlines
         go true = refl
         go false = refl
 

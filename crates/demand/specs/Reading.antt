@@ -99,7 +99,7 @@ pub parents-total : (s : Stores) (d kt at pt : ℕ) → Tidy (view s) d kt at pt
 unfolding itemsAt
 parents-total s zero kt at pt t = sym (t .0)
 parents-total s (suc k) kt at pt (a, b, c, e, f) =
-    rw (parents-total s k (rowWord (s .rows) (suc k) 2) (rowWord (s .rows) (suc k) 3) (rowWord (s .rows) (suc k) 4) f, length-cells (s .nodes) (rowWord (s .rows) (suc k) 2) (kt - rowWord (s .rows) (suc k) 2)) (omega arith)
+    (λ i. length-cells (s .nodes) (rowWord (s .rows) (suc k) 2) (kt - rowWord (s .rows) (suc k) 2) i + parents-total s k (rowWord (s .rows) (suc k) 2) (rowWord (s .rows) (suc k) 3) (rowWord (s .rows) (suc k) 4) f i) ∙ (omega arith)
 
 length-pairs : (rows names : List ℕ) (i n : ℕ) → length (pairsAt rows names i n) ≡ n
 unfolding pairsAt

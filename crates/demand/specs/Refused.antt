@@ -17,14 +17,16 @@ use Rattle.exec.specs.Scans.{Sought, over, stopped}
 use Rattle.shapes.specs.Shapes.{esiOn, sized, stateRefusal}
 use Rattle.weighing.specs.Weighing.{tagRefusal, pairsFull, pushRefusal, attributesRefusal, endRefusal}
 use Rattle.course.specs.Course.{kindOf, hasContent, begin, resumed}
-use Rattle.tags.specs.declared.Answer.{Answer}
+use Rattle.accepting.specs.declared.Answer.{Answer}
 use Rattle.weighing.specs.Words.{noIds}
-use Rattle.tags.specs.Tags.{Outcome, outcome, reply, refusing, accepted, whole, begun, lowered, given}
+use Rattle.accepting.specs.Accepting.{Outcome, outcome, reply, refusing, accepted}
+use Rattle.tags.specs.Tags.{whole, begun, lowered, given}
 use Rattle.making.specs.declared.Made.{Made}
 use Rattle.ends.specs.declared.Popped.{Popped}
 use Rattle.making.specs.Making.{Fresh, freshOf, freshCall}
 use Rattle.ends.specs.Ends.{Ended, ended, popping, endCall}
-use Rattle.machine.specs.Calls.{startCall, attributesCall}
+use Rattle.starts.specs.Starts.{startCall}
+use Rattle.resumes.specs.Resumes.{attributesCall}
 
 -- If the answer is a refusal, the outcome is that refusal with no id, and the stores that came in; if attributes are asked for, no id goes out yet.
 abbrev pub Kept : Stores → Outcome → Type 0

@@ -13,14 +13,15 @@ use Rattle.sheet.specs.Parser.{Parsed, parseSheet}
 use Rattle.compiler.specs.Compiler.{places}
 use Rattle.stack.specs.Stores.{Stores, stores, idWords}
 use Rattle.shapes.specs.Shapes.{sized}
-use Rattle.tags.specs.declared.Answer as tags
+use Rattle.accepting.specs.declared.Answer as accepting
 use Rattle.making.specs.declared.Made.{Made}
 use Rattle.ends.specs.declared.Popped.{Popped}
 use Rattle.ends.specs.declared.Top.{Top}
-use Rattle.tags.specs.Tags.{Outcome}
+use Rattle.accepting.specs.Accepting.{Outcome}
 use Rattle.making.specs.Making.{Fresh, freshCall}
 use Rattle.ends.specs.Ends.{Ended, endCall, idSetCall}
-use Rattle.machine.specs.Calls.{startCall, attributesCall}
+use Rattle.starts.specs.Starts.{startCall}
+use Rattle.resumes.specs.Resumes.{attributesCall}
 use Rattle.meaning.specs.Lists.{_∈_}
 use Rattle.meaning.specs.Document as document
 use Rattle.meaning.specs.Trees.{Forest, size}
@@ -54,10 +55,10 @@ wordsFrom ids k zero = []
 wordsFrom ids k (suc n) = cellsFrom ids (k * idWords) idWords ∷ wordsFrom ids (k + 1) n
 
 -- The answers, with the ids that come beside them.
-abbrev pub tagAnswer : tags.Answer → (ids : List ℕ) → Answer (List ℕ)
-tagAnswer (tags.Answer.Match content) ids = matched ids content
-tagAnswer tags.Answer.Attributes ids = attributes-wanted
-tagAnswer (tags.Answer.Refused number) ids = refused number
+abbrev pub tagAnswer : accepting.Answer → (ids : List ℕ) → Answer (List ℕ)
+tagAnswer (accepting.Answer.Match content) ids = matched ids content
+tagAnswer accepting.Answer.Attributes ids = attributes-wanted
+tagAnswer (accepting.Answer.Refused number) ids = refused number
 
 abbrev pub endAnswer : Popped → (buffer : List ℕ) → Answer (List ℕ)
 endAnswer (Popped.Elements n) buffer = popped (wordsFrom buffer 0 n)

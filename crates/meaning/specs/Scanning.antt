@@ -50,5 +50,5 @@ module _ (tag-tests attribute-tested : ℕ → Bool) where
 
         go : (a : Bool) → tag-tests n ≡ a → (b : Bool) → attribute-tested n ≡ b → finish sc ≡ keep both ns → finish (visit tag-tests attribute-tested a b n ns sc) ≡ put-if (a && attribute-tests n) n (keep both ns)
         go false e b e′ ih = ih
-        go true e true e′ ih = rw e
+        go true e true e′ ih = ap (λ a. put-if (a && attribute-tests n) n (keep both ns)) e
         go true e false e′ ih = rw (untested n e′) (added sc ∙ ap (λ x. n ∷ x) ih)

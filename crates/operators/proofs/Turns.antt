@@ -27,18 +27,19 @@ empty-no (x ∷ xs) n = refl
 pub ends-short : (f : Bool) (v o : List ℕ) → length v < length o → sameBytes f f (drop (length v - length o) v) o ≡ false
 ends-short f v o h = same-long f f _ o (λ e. omega (arith, length-drop (length v - length o) v))
 
+-- a part to the end, as the code's `&v[a..]` has it
+pub rest-is : (v : List ℕ) (a : ℕ) → take (length v - a) (drop a v) ≡ drop a v
+rest-is v a = take-all (length v - a) (drop a v) (omega (arith, length-drop a v))
+
 module _ (f : Bool) (v o : List ℕ) where
-  pub contains-step : (i : ℕ) → i < length v → containsBytes f (drop i v) o ≡ (beginsWith f (drop i v) o || containsBytes f (drop (i + 1) v) o)
+  -- a turn of the loop of `substring`: the rest begins with the operand, or the next rest may have it
+  pub contains-step : (i : ℕ) (begun b : Bool) → i < length v → begun ≡ beginsWith f (take (length v - i) (drop i v)) o → begun ≡ b → containsBytes f (drop i v) o ≡ (b || containsBytes f (drop (i + 1) v) o)
   unfolding containsBytes
-  contains-step i h = rw (add-one, drop-cons v i 0 h)
+  contains-step i begun b h e q = rw (← q, e, rest-is v i, add-one, drop-cons v i 0 h)
 
   pub contains-end : (i : ℕ) → length v ≤ i → (length o ≡ 0 → ⊥) → containsBytes f (drop i v) o ≡ false
   unfolding containsBytes beginsWith
   contains-end i h n = rw (drop-of-length-le v h, take-nil (length o)) (same-long f f [] o (λ e. n (sym e)))
-
--- a part to the end, as the code's `&v[a..]` has it
-pub rest-is : (v : List ℕ) (a : ℕ) → take (length v - a) (drop a v) ≡ drop a v
-rest-is v a = take-all (length v - a) (drop a v) (omega (arith, length-drop a v))
 
 part-more : (v : List ℕ) (s i : ℕ) → s ≤ i → i < length v → part v s i ++ (getD v i 0 ∷ []) ≡ part v s (i + 1)
 part-more v s i h k =

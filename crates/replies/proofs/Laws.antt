@@ -3,10 +3,10 @@ use mathlib.Core.List.{List}
 use mathlib.Core.Path.{_≡_}
 use Prim.Native.Nat.{ℕ}
 use Rattle.text.specs.Text.{Wrote}
-use Rattle.tags.specs.Tags.{Outcome, outcome}
+use Rattle.accepting.specs.Accepting.{Outcome, outcome}
 use Rattle.ends.specs.Ends.{ended, endCall}
 use Rattle.ends.specs.declared.Popped.{Popped}
-use Rattle.tags.specs.declared.Reply.{Reply}
+use Rattle.accepting.specs.declared.Reply.{Reply}
 use Rattle.stack.specs.Stores.{Stores, stores}
 use Rattle.reply_lines.specs.ReplyLines.{replyLine, poppedLine}
 use Rattle.replies.specs.Replies.{spoken, endTurn, poppedRoom, answered, saying}

@@ -4,9 +4,10 @@ use mathlib.Core.List.{List}
 use Prim.Native.Nat.{ℕ, _+_, _≤_}
 use lib.ListN.{length, replicate}
 use Rattle.cells.specs.Stretches.{written}
-use Rattle.tags.specs.Tags.{Outcome}
+use Rattle.accepting.specs.Accepting.{Outcome}
 use Rattle.ends.specs.Ends.{Ended, endCall}
-use Rattle.machine.specs.Calls.{startCall, attributesCall}
+use Rattle.starts.specs.Starts.{startCall}
+use Rattle.resumes.specs.Resumes.{attributesCall}
 use Rattle.stack.specs.Stores.{Stores, stores}
 use Rattle.reply_lines.specs.ReplyLines.{replyLine, poppedLine}
 use Rattle.replies.specs.declared.Said.{Said}

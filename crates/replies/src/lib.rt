@@ -28,7 +28,7 @@ pub fn answer_start(
     ensures { λ r. ⌜ answered (Said.Line r) (now (out .exit)) (stores (now (rows .exit)) (now (names .exit)) (now (ids .exit)) (now (nodes .exit))) ≡ saying (startTurn (now (sheet .entry)) (now (program .entry)) (stores (now (rows .entry)) (now (names .entry)) (now (ids .entry)) (now (nodes .entry))) namespace (now (name .entry))) (now (out .entry)) at ⌝ }
     ensures { λ r. ⌜ r ≤ at + 4096 ⌝ }
 {
-    let reply = machine::start(sheet, program, rows, names, ids, nodes, namespace, name);
+    let reply = starts::start(sheet, program, rows, names, ids, nodes, namespace, name);
     put_reply(out, at, reply)
 }
 
@@ -49,7 +49,7 @@ pub fn answer_attributes(
     ensures { λ r. ⌜ answered (Said.Line r) (now (out .exit)) (stores (now (rows .exit)) (now (names .exit)) (now (ids .exit)) (now (nodes .exit))) ≡ saying (attributesTurn (now (sheet .entry)) (now (program .entry)) (stores (now (rows .entry)) (now (names .entry)) (now (ids .entry)) (now (nodes .entry))) closing (now (body .entry)) (now (outlines .entry))) (now (out .entry)) at ⌝ }
     ensures { λ r. ⌜ r ≤ at + 4096 ⌝ }
 {
-    let reply = machine::attributes(
+    let reply = resumes::attributes(
         sheet,
         program,
         rows,

@@ -6,7 +6,7 @@ use Prim.Native.Nat.{ℕ}
 use Rattle.text.specs.Text.{Wrote}
 use Rattle.match_lines.specs.MatchLines.{matchLine}
 use Rattle.lines.specs.Lines.{attrsLine, popLine, refusedLine}
-use Rattle.tags.specs.declared.Answer.{Answer}
+use Rattle.accepting.specs.declared.Answer.{Answer}
 use Rattle.ends.specs.declared.Popped.{Popped}
 use Rattle.reply_lines.specs.ReplyLines.{answerLine, poppedLine}
 

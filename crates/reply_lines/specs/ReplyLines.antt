@@ -3,9 +3,9 @@ use mathlib.Core.List.{List}
 use Prim.Native.Nat.{ℕ}
 use Rattle.match_lines.specs.MatchLines.{matchLine}
 use Rattle.lines.specs.Lines.{attrsLine, popLine, refusedLine}
-use Rattle.tags.specs.declared.Answer.{Answer}
+use Rattle.accepting.specs.declared.Answer.{Answer}
 use Rattle.ends.specs.declared.Popped.{Popped}
-use Rattle.tags.specs.declared.Reply.{Reply}
+use Rattle.accepting.specs.declared.Reply.{Reply}
 
 -- The line of an answer to a start tag or to attributes.
 unfoldable pub answerLine : Answer → (ids : List ℕ) → List ℕ

@@ -1,11 +1,11 @@
 //! The line that answers a reply to a start tag or to attributes, or to an end tag.
+use accepting::Answer;
+use accepting::Reply;
 use ends::Popped;
 use lines::put_attrs;
 use lines::put_pop;
 use lines::put_refused;
 use match_lines::put_match;
-use tags::Answer;
-use tags::Reply;
 ghost use Prim.Native.Nat.{_+_, _≤_};
 ghost use Rattle.text.specs.Text.{Wrote};
 ghost use Rattle.reply_lines.specs.ReplyLines.{replyLine, poppedLine};

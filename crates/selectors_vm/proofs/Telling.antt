@@ -2,10 +2,10 @@
 use mathlib.Core.Path.{_≡_, _∙_, ap}
 use mathlib.Core.List.{List}
 use Prim.Native.Nat.{ℕ}
-use Rattle.tags.specs.Tags.{Outcome, outcome}
+use Rattle.accepting.specs.Accepting.{Outcome, outcome}
 use Rattle.making.specs.Making.{Fresh, fresh}
 use Rattle.ends.specs.Ends.{Ended, ended}
-use Rattle.tags.specs.declared.Reply.{Reply}
+use Rattle.accepting.specs.declared.Reply.{Reply}
 use Rattle.making.specs.declared.Made.{Made}
 use Rattle.ends.specs.declared.Popped.{Popped}
 use Rattle.stack.specs.Stores.{Stores}

@@ -7,7 +7,8 @@ use told::tell_top_reply;
 ghost use mathlib.Core.Path.{_≡_};
 ghost use Rattle.making.specs.Making.{freshCall};
 ghost use Rattle.ends.specs.Ends.{endCall, idSetCall};
-ghost use Rattle.machine.specs.Calls.{startCall, attributesCall};
+ghost use Rattle.starts.specs.Starts.{startCall};
+ghost use Rattle.resumes.specs.Resumes.{attributesCall};
 ghost use Rattle.stack.specs.Stores.{stores};
 ghost use Rattle.told.specs.Told.{madeTold, replyTold, poppedTold, topReplyTold};
 ghost use Rattle.selectors_vm.specs.Flags.{isOn};
@@ -42,7 +43,7 @@ pub extern "C" fn selectors_vm_start(
 ) -> Told
     ensures { λ r. ⌜ (r ≡ replyTold (startCall (now (sheet .entry)) (now (program .entry)) (stores (now (rows .entry)) (now (names .entry)) (now (ids .entry)) (now (nodes .entry))) namespace (now (name .entry)) .reply)) × (stores (now (rows .exit)) (now (names .exit)) (now (ids .exit)) (now (nodes .exit)) ≡ startCall (now (sheet .entry)) (now (program .entry)) (stores (now (rows .entry)) (now (names .entry)) (now (ids .entry)) (now (nodes .entry))) namespace (now (name .entry)) .after) ⌝ }
 {
-    tell_reply(machine::start(sheet, program, rows, names, ids, nodes, namespace, name))
+    tell_reply(starts::start(sheet, program, rows, names, ids, nodes, namespace, name))
 }
 
 /// The attributes of the tag that waits: its bytes, and outlines in fours (name start, name end, value start, value end).
@@ -60,7 +61,7 @@ pub extern "C" fn selectors_vm_attributes(
 ) -> Told
     ensures { λ r. ⌜ (r ≡ replyTold (attributesCall (now (sheet .entry)) (now (program .entry)) (stores (now (rows .entry)) (now (names .entry)) (now (ids .entry)) (now (nodes .entry))) (isOn «self_closing») (now (input .entry)) (now (outlines .entry)) .reply)) × (stores (now (rows .exit)) (now (names .exit)) (now (ids .exit)) (now (nodes .exit)) ≡ attributesCall (now (sheet .entry)) (now (program .entry)) (stores (now (rows .entry)) (now (names .entry)) (now (ids .entry)) (now (nodes .entry))) (isOn «self_closing») (now (input .entry)) (now (outlines .entry)) .after) ⌝ }
 {
-    tell_reply(machine::attributes(
+    tell_reply(resumes::attributes(
         sheet,
         program,
         rows,

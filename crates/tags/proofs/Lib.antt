@@ -1,1 +1,1 @@
-pub mod Accepting
+mod Laws

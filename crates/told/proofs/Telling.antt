@@ -3,7 +3,7 @@ use mathlib.Core.Bool.{Bool, true, false}
 use mathlib.Core.Path.{_≡_, ap, sym}
 use Prim.Native.Nat.{ℕ}
 use mir.Val.{boolByte}
-use Rattle.tags.specs.declared.Answer.{Answer}
+use Rattle.accepting.specs.declared.Answer.{Answer}
 use Rattle.ends.specs.declared.Top.{Top}
 use Rattle.told.specs.Told.{told, answerTold, topTold}
 

@@ -2,8 +2,8 @@
 use mathlib.Core.Bool.{cond}
 use Prim.Native.Nat.{ℕ}
 use lib.ListN.{getD}
-use Rattle.tags.specs.declared.Answer.{Answer}
-use Rattle.tags.specs.declared.Reply.{Reply}
+use Rattle.accepting.specs.declared.Answer.{Answer}
+use Rattle.accepting.specs.declared.Reply.{Reply}
 use Rattle.making.specs.declared.Made.{Made}
 use Rattle.ends.specs.declared.Popped.{Popped}
 use Rattle.ends.specs.declared.Top.{Top}

@@ -1,10 +1,10 @@
 //! What a C caller is told of an answer of the machine (01, sections 2 and 8): the answer as five numbers.
+use accepting::Answer;
+use accepting::Reply;
 use ends::Popped;
 use ends::Top;
 use ends::TopReply;
 use making::Made;
-use tags::Answer;
-use tags::Reply;
 ghost use mathlib.Core.Path.{_≡_};
 ghost use Rattle.told.specs.Told.{madeTold, answerTold, replyTold, poppedTold, topTold, topReplyTold};
 

@@ -45,24 +45,36 @@ fn read_string(fd: i32, room: &mut [u8]) -> usize
     io::read_full(fd, &mut room[0..n])
 }
 
-// Runs a case of this kind on its input and writes what it answers.
-fn answers(
-    kind: u8,
-    input: &[u8],
-    program: &mut [u32],
-    rows: &mut [u32],
-    names: &mut [u8],
-    ids: &mut [u64],
-    nodes: &mut [u16],
-    out: &mut [u8],
-) -> usize
+// Runs a case of this kind on its input and writes what it answers. The stores are no machine's before it makes one.
+fn answers(kind: u8, input: &[u8], out: &mut [u8]) -> usize
     requires { ⌜ (length (now input) ≤ 131072) × (length (now out) ≡ 131072) ⌝ }
     ensures { λ r. ⌜ r ≤ length (now (out .exit)) ⌝ }
 {
+    let mut program = [2880154539u32; 8192];
+    let mut rows = [2880154539u32; 3096];
+    let mut names = [171u8; 49216];
+    let mut ids = [171u64; 514];
+    let mut nodes = [43947u16; 6144];
     if kind == 1 {
-        return whole(input, program, rows, names, ids, nodes, out);
+        return whole(
+            input,
+            &mut program,
+            &mut rows,
+            &mut names,
+            &mut ids,
+            &mut nodes,
+            out,
+        );
     }
-    replay_calls(input, program, rows, names, ids, nodes, out)
+    replay_calls(
+        input,
+        &mut program,
+        &mut rows,
+        &mut names,
+        &mut ids,
+        &mut nodes,
+        out,
+    )
 }
 
 fn say(text: &[u8], n: u64, rest: &[u8]) {
@@ -97,15 +109,8 @@ fn room() -> [u8; 131072]
     [0; 131072]
 }
 
-// Reads a case and runs it. The stores hold what the last case left in them.
-fn replay(
-    fd: i32,
-    program: &mut [u32],
-    rows: &mut [u32],
-    names: &mut [u8],
-    ids: &mut [u64],
-    nodes: &mut [u16],
-) -> Verdict {
+// Reads a case and runs it.
+fn replay(fd: i32) -> Verdict {
     let mut kind = [0u8; 1];
     let mut name = [0u8; 256];
     let mut input = room();
@@ -117,16 +122,7 @@ fn replay(
     let named = read_string(fd, &mut name);
     let n = read_string(fd, &mut input);
     let m = read_string(fd, &mut expected);
-    let wrote = answers(
-        kind[0],
-        &input[0..n],
-        program,
-        rows,
-        names,
-        ids,
-        nodes,
-        &mut out,
-    );
+    let wrote = answers(kind[0], &input[0..n], &mut out);
     compare(kind[0], &name[0..named], &out[0..wrote], &expected[0..m])
 }
 
@@ -168,21 +164,14 @@ fn is_over(agree: Agree, verdict: Verdict) -> bool {
     }
 }
 
-fn replay_all(
-    fd: i32,
-    program: &mut [u32],
-    rows: &mut [u32],
-    names: &mut [u8],
-    ids: &mut [u64],
-    nodes: &mut [u16],
-) {
+fn replay_all(fd: i32) {
     let mut agree = Agree {
         programs: 0,
         libraries: 0,
     };
     let mut left: u64 = 1000000;
     while 0 < left {
-        let verdict = replay(fd, program, rows, names, ids, nodes);
+        let verdict = replay(fd);
         if is_over(agree, verdict) {
             return;
         }
@@ -192,23 +181,11 @@ fn replay_all(
 }
 
 fn main() {
-    let mut program = [0u32; 8192];
-    let mut rows = [0u32; 3096];
-    let mut names = [0u8; 49216];
-    let mut ids = [0u64; 514];
-    let mut nodes = [0u16; 6144];
     let fd = os::open_read(b"cases");
     if fd < 0 {
         os::fail(b"cases");
         return;
     }
-    replay_all(
-        fd,
-        &mut program,
-        &mut rows,
-        &mut names,
-        &mut ids,
-        &mut nodes,
-    );
+    replay_all(fd);
     libc::close(fd);
 }

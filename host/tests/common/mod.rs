@@ -300,6 +300,12 @@ impl Counts {
         self.0[slot as usize] += 1;
     }
 
+    pub fn add_all(&mut self, others: &Counts) {
+        for (count, other) in self.0.iter_mut().zip(others.0) {
+            *count += other;
+        }
+    }
+
     pub fn refusals_missing(&self) -> Vec<u32> {
         let numbers = Refusal::ALL.iter().map(|refusal| refusal.number());
         numbers.filter(|&n| self.0[n as usize] == 0).collect()

@@ -4,7 +4,7 @@ use Rattle.replies.proofs.answer_attributes.Statement.{statement}
 use Rattle.replies.proofs.answer_attributes.Tie as tie
 use Rattle.replies.proofs.answer_attributes.Reads as reads
 use Rattle.replies.proofs.answer_attributes.Lts as lts
-use Rattle.machine.proofs.attributes.Reads as attributes-reads
+use Rattle.resumes.proofs.attributes.Reads as attributes-reads
 use Rattle.reply_lines.proofs.put_reply.Reads as put-reply-reads
 
 attributes-requires : tie.Need-attributes-requires

@@ -4,7 +4,7 @@ use Rattle.replies.proofs.answer_start.Statement.{statement}
 use Rattle.replies.proofs.answer_start.Tie as tie
 use Rattle.replies.proofs.answer_start.Reads as reads
 use Rattle.replies.proofs.answer_start.Lts as lts
-use Rattle.machine.proofs.start.Reads as start-reads
+use Rattle.starts.proofs.start.Reads as start-reads
 use Rattle.reply_lines.proofs.put_reply.Reads as put-reply-reads
 
 start-requires : tie.Need-start-requires

@@ -4,7 +4,7 @@ use Rattle.selectors_vm.proofs.selectors_vm_attributes.Statement.{state
 use Rattle.selectors_vm.proofs.selectors_vm_attributes.Tie as tie
 use Rattle.selectors_vm.proofs.selectors_vm_attributes.Reads as reads
 use Rattle.selectors_vm.proofs.selectors_vm_attributes.Lts as lts
-use Rattle.machine.proofs.attributes.Reads as attributes-reads
+use Rattle.resumes.proofs.attributes.Reads as attributes-reads
 use Rattle.told.proofs.tell_reply.Reads as tell-reply-reads
 
 attributes-requires : tie.Need-attributes-requires

@@ -4,7 +4,7 @@ use Rattle.selectors_vm.proofs.selectors_vm_start.Statement.{statement}
 use Rattle.selectors_vm.proofs.selectors_vm_start.Tie as tie
 use Rattle.selectors_vm.proofs.selectors_vm_start.Reads as reads
 use Rattle.selectors_vm.proofs.selectors_vm_start.Lts as lts
-use Rattle.machine.proofs.start.Reads as start-reads
+use Rattle.starts.proofs.start.Reads as start-reads
 use Rattle.told.proofs.tell_reply.Reads as tell-reply-reads
 
 start-requires : tie.Need-start-requires

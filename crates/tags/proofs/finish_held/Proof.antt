@@ -1,55 +1,44 @@
-use Rattle.tags.proofs.Accepting.{whole-refused, held-accepted, still-refused, still-passed, still-open, still-parents, still-ancestors}
+use Rattle.tags.proofs.Laws.{whole-refused, held-accepted, still-refused, still-passed, still-open, still-parents, still-ancestors}
 use borrow.Author.Needs.{needs}
 use Rattle.tags.proofs.finish_held.Statement.{statement}
 use Rattle.tags.proofs.finish_held.Tie as tie
 use Rattle.tags.proofs.finish_held.Reads as reads
 use Rattle.tags.proofs.finish_held.Lts as lts
-use Rattle.tags.proofs.accept.Reads as accept-reads
-use Rattle.tags.proofs.refused.Reads as refused-reads
+use Rattle.accepting.proofs.accept.Reads as accept-reads
+use Rattle.accepting.proofs.refused.Reads as refused-reads
 use Rattle.waiting.proofs.release.Reads as release-reads
 use Rattle.weighing.proofs.push_refusal.Reads as push-refusal-reads
 
--- src/lib.rt:406:9
 push-refusal-requires : tie.Need-push-refusal-requires
 push-refusal-requires c κs = search needs
 
--- src/lib.rt:408:9
 refused-requires : tie.Need-refused-requires
 refused-requires c κs = search needs
 
--- src/lib.rt:408:9
 same-length : tie.Need-same-length
 same-length c = search needs
 
--- src/lib.rt:408:9
 returns : tie.Need-returns
 returns c = whole-refused _ _ _ _ _ _ _ _ (still-refused _ _ _ _ _ _ (c .before .before .push-refusal .ensures)) _ (c .before .if1 .taken) (c .refused .ensures)
 
--- src/lib.rt:410:5
 release-requires : tie.Need-release-requires
 release-requires c κs = search needs
 
--- src/lib.rt:411:5
 accept-requires : tie.Need-accept-requires
 accept-requires c κs = let p = c .before .before .before .before .before .before .before .before .before .before .before .before .before .before .before .before .before .before .before .pre in ((still-open _ _ (c .before .before .before .before .before .before .release .ensures) (p .0), still-parents _ _ (c .before .before .before .before .before .before .release .ensures) (p .1), still-ancestors _ _ (c .before .before .before .before .before .before .release .ensures) (p .2), p .3, p .4), still-passed _ _ (c .before .before .before .before .before .before .release .ensures) _ _ _ _ _ (c .before .before .before .before .before .before .before .before .before .push-refusal .ensures) (c .before .before .before .before .before .before .before .before .if1 .left))
 
--- src/lib.rt:392:1
 same-length-2 : tie.Need-same-length-2
 same-length-2 c = search needs
 
--- src/lib.rt:392:1
 same-length-3 : tie.Need-same-length-3
 same-length-3 c = search needs
 
--- src/lib.rt:392:1
 same-length-4 : tie.Need-same-length-4
 same-length-4 c = search needs
 
--- src/lib.rt:392:1
 same-length-5 : tie.Need-same-length-5
 same-length-5 c = search needs
 
--- src/lib.rt:392:1
 returns-2 : tie.Need-returns-2
 returns-2 c = held-accepted _ _ (c .before .before .before .before .before .before .before .before .before .before .before .before .before .before .before .release .ensures) _ _ _ _ _ _ _ _ _ _ _ (c .before .before .before .before .before .before .before .before .before .before .before .before .before .before .before .before .before .before .push-refusal .ensures) (c .before .before .before .before .before .before .before .before .before .before .before .before .before .before .before .before .before .if1 .left) (c .before .before .before .before .before .before .before .before .accept .ensures)
 

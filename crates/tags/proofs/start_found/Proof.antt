@@ -1,4 +1,4 @@
-use Rattle.tags.proofs.Accepting.{begun-waits, begun-over}
+use Rattle.tags.proofs.Laws.{begun-waits, begun-over}
 use borrow.Author.Needs.{needs}
 use Rattle.tags.proofs.start_found.Statement.{statement}
 use Rattle.tags.proofs.start_found.Tie as tie
@@ -9,63 +9,48 @@ use Rattle.tags.proofs.finish.Reads as finish-reads
 use Rattle.course.proofs.has_content.Reads as has-content-reads
 use Rattle.waiting.proofs.hold.Reads as hold-reads
 
--- src/lib.rt:304:13
 cell-of-requires : tie.Need-cell-of-requires
 cell-of-requires c κs = search needs
 
--- src/lib.rt:305:13
 cell-of-requires-2 : tie.Need-cell-of-requires-2
 cell-of-requires-2 c κs = search needs
 
--- src/lib.rt:306:13
 cell-of-requires-3 : tie.Need-cell-of-requires-3
 cell-of-requires-3 c κs = search needs
 
--- src/lib.rt:307:9
 hold-requires : tie.Need-hold-requires
 hold-requires c κs = search needs
 
--- src/lib.rt:308:9
 same-length : tie.Need-same-length
 same-length c = search needs
 
--- src/lib.rt:308:9
 same-length-2 : tie.Need-same-length-2
 same-length-2 c = search needs
 
--- src/lib.rt:308:9
 same-length-3 : tie.Need-same-length-3
 same-length-3 c = search needs
 
--- src/lib.rt:308:9
 returns : tie.Need-returns
 returns c = begun-waits _ _ _ _ _ _ _ _ _ _ _ _ _ _ _ _ _ (c .before .before .before .before .before .before .before .before .before .before .before .before .before .if1 .taken) (c .before .before .before .before .before .before .before .before .before .before .before .before .cell-of .ensures) (c .before .before .before .before .before .before .before .before .before .before .before .cell-of2 .ensures) (c .before .before .before .before .before .before .before .before .before .before .cell-of3 .ensures) (c .before .before .before .before .before .before .hold .ensures)
 
--- src/lib.rt:313:9
 has-content-requires : tie.Need-has-content-requires
 has-content-requires c κs = search needs
 
--- src/lib.rt:314:5
 finish-requires : tie.Need-finish-requires
 finish-requires c κs = search needs
 
--- src/lib.rt:286:1
 same-length-4 : tie.Need-same-length-4
 same-length-4 c = search needs
 
--- src/lib.rt:286:1
 same-length-5 : tie.Need-same-length-5
 same-length-5 c = search needs
 
--- src/lib.rt:286:1
 same-length-6 : tie.Need-same-length-6
 same-length-6 c = search needs
 
--- src/lib.rt:286:1
 same-length-7 : tie.Need-same-length-7
 same-length-7 c = search needs
 
--- src/lib.rt:286:1
 returns-2 : tie.Need-returns-2
 returns-2 c = begun-over _ _ _ _ _ _ _ _ _ _ _ _ _ (c .before .before .before .before .before .before .before .before .before .before .before .before .before .before .if1 .left) (c .before .before .before .before .before .before .before .before .before .before .before .before .before .has-content .ensures) (c .before .before .before .before .before .before .before .before .finish .ensures)
 
