@@ -10,32 +10,6 @@ ghost use mathlib.Core.Path.{_≡_};
 ghost use Prim.Native.Nat.{_+_, _*_, _≤_, _<_};
 ghost use lib.ListN.{length};
 
-fn tag_call(
-    s: State,
-    kind: usize,
-    input: &[u8],
-    program: &[u32],
-    rows: &mut [u32],
-    names: &mut [u8],
-    ids: &mut [u64],
-    nodes: &mut [u16],
-    out: &mut [u8],
-) -> State
-    requires { ⌜ (length (now input) ≤ 131072) × (s .at ≤ 131072) × (s .wrote ≤ 131072) ⌝ }
-    ensures { λ r. ⌜ (r .at ≤ 262144) × (r .wrote ≤ 143360) × (r .size ≡ s .size) ⌝ }
-{
-    if kind == 2 {
-        return start_call(s, input, program, rows, names, ids, nodes, out);
-    }
-    if kind == 3 {
-        return attributes_call(s, input, program, rows, names, ids, nodes, out);
-    }
-    if kind == 4 {
-        return end_call(s, input, program, rows, names, ids, nodes, out);
-    }
-    ids_call(s, input, program, rows, names, ids, nodes, out)
-}
-
 // The call at hand, by its kind; any other ends the case.
 fn one_call(
     s: State,
@@ -55,7 +29,17 @@ fn one_call(
         return make_call(s, input, program, rows, names, ids, nodes, out);
     }
     let n = s.size;
-    tag_call(s, kind, input, &program[0..n], rows, names, ids, nodes, out)
+    let part = &program[0..n];
+    if kind == 2 {
+        return start_call(s, input, part, rows, names, ids, nodes, out);
+    }
+    if kind == 3 {
+        return attributes_call(s, input, part, rows, names, ids, nodes, out);
+    }
+    if kind == 4 {
+        return end_call(s, input, part, rows, names, ids, nodes, out);
+    }
+    ids_call(s, input, part, rows, names, ids, nodes, out)
 }
 
 // All calls of a case, at most 65,536 of them. Answers where the lines end.
