@@ -1,5 +1,5 @@
 -- DEMAND 1, its last sentence: whatever bytes the stores hold, a refused call hands out no id and leaves every store and buffer as it was. Nor does a tag that begins to wait hand out an id.
-use mathlib.Core.Path.{_≡_, refl, sym, _∙_, ap, subst}
+use mathlib.Core.Path.{_≡_, refl, sym, ap, subst}
 use mathlib.Core.Logic.{_⊎_, inl, inr}
 use mathlib.Core.Bool.{Bool, true, false, cond, not}
 use mathlib.Core.List.{List, map}

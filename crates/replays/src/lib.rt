@@ -7,7 +7,7 @@ use calls::make_call;
 use calls::start_call;
 use cells::at8;
 ghost use mathlib.Core.Path.{_≡_};
-ghost use Prim.Native.Nat.{_+_, _*_, _≤_, _<_};
+ghost use Prim.Native.Nat.{_≤_, _<_};
 ghost use lib.ListN.{length};
 
 // The call at hand, by its kind; any other ends the case.

@@ -5,7 +5,7 @@ use Prim.Native.Nat.{ℕ, _+_, _≤_}
 use lib.ListN.{length, replicate}
 use Rattle.cells.specs.Stretches.{written}
 use Rattle.accepting.specs.Accepting.{Outcome}
-use Rattle.ends.specs.Ends.{Ended, endCall}
+use Rattle.ends.specs.Ends.{endCall}
 use Rattle.starts.specs.Starts.{startCall}
 use Rattle.resumes.specs.Resumes.{attributesCall}
 use Rattle.stack.specs.Stores.{Stores, stores}

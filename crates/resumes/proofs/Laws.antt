@@ -14,6 +14,7 @@ use Rattle.course.specs.Course.{hasContent, resumed}
 use Rattle.accepting.specs.declared.Answer.{Answer}
 use Rattle.accepting.specs.declared.Reply.{Reply}
 use Rattle.accepting.specs.Accepting.{Outcome, outcome, reply}
+use Rattle.accepting.specs.Refusing.{refusing-is}
 use Rattle.tags.specs.Tags.{whole, given}
 use Rattle.resumes.specs.Resumes.{attributesCall}
 
@@ -33,12 +34,12 @@ given-is sheet program s name closing input outlines zeros last n kind content o
 module _ (sheet program : List ℕ) (s : Stores) (closing : Bool) (input outlines : List ℕ) (state : ℕ) (e : state ≡ stateRefusal sheet program s) where
   pub attributes-state : (answer : Reply) → (state ≡ 0 → ⊥) → answer ≡ reply (Answer.Refused state) noIds → outcome answer s ≡ attributesCall sheet program s closing input outlines
   unfolding attributesCall
-  attributes-state answer h q = rw (stopped-by state _ e h) ((λ i. outcome (q i) s) ∙ (λ i. outcome (reply (Answer.Refused (e i)) noIds) s))
+  attributes-state answer h q = rw (stopped-by state _ e h) (refusing-is s answer state _ e q)
 
   module _ (z : state ≡ 0) (r : ℕ) (f : r ≡ attributesRefusal (s .rows) input outlines) where
     pub attributes-refused : (answer : Reply) → (r ≡ 0 → ⊥) → answer ≡ reply (Answer.Refused r) noIds → outcome answer s ≡ attributesCall sheet program s closing input outlines
     unfolding attributesCall
-    attributes-refused answer h q = rw (passed state _ e z, stopped-by r _ f h) ((λ i. outcome (q i) s) ∙ (λ i. outcome (reply (Answer.Refused (f i)) noIds) s))
+    attributes-refused answer h q = rw (passed state _ e z, stopped-by r _ f h) (refusing-is s answer r _ f q)
 
     pub attributes-given : (o : Outcome) (low last : List ℕ) (n : ℕ) → r ≡ 0 → (n ≡ getD (s .rows) 5 0) × (last ≡ written low 0 (heldName (s .rows) (s .names))) → getD (s .rows) 5 0 ≤ length low
         → o ≡ given sheet program s (take (n - 0) (drop 0 last)) closing input outlines → o ≡ attributesCall sheet program s closing input outlines

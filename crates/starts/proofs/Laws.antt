@@ -19,6 +19,7 @@ use Rattle.course.specs.Course.{kindOf, begin}
 use Rattle.accepting.specs.declared.Answer.{Answer}
 use Rattle.accepting.specs.declared.Reply.{Reply}
 use Rattle.accepting.specs.Accepting.{Outcome, outcome, reply}
+use Rattle.accepting.specs.Refusing.{refusing-is}
 use Rattle.tags.specs.Tags.{soughtOf, begun, lowered}
 use Rattle.starts.specs.Starts.{startCall}
 
@@ -46,12 +47,12 @@ module _ (sheet program : List ℕ) (s : Stores) (name : List ℕ) (kind : ℕ) 
 module _ (sheet program : List ℕ) (s : Stores) (namespace : ℕ) (name : List ℕ) (state : ℕ) (e : state ≡ stateRefusal sheet program s) where
   pub start-state : (answer : Reply) → (state ≡ 0 → ⊥) → answer ≡ reply (Answer.Refused state) noIds → outcome answer s ≡ startCall sheet program s namespace name
   unfolding startCall
-  start-state answer h q = rw (stopped-by state _ e h) ((λ i. outcome (q i) s) ∙ (λ i. outcome (reply (Answer.Refused (e i)) noIds) s))
+  start-state answer h q = rw (stopped-by state _ e h) (refusing-is s answer state _ e q)
 
   module _ (z : state ≡ 0) (tag : ℕ) (f : tag ≡ tagRefusal (s .rows) namespace name) where
     pub start-tag : (answer : Reply) → (tag ≡ 0 → ⊥) → answer ≡ reply (Answer.Refused tag) noIds → outcome answer s ≡ startCall sheet program s namespace name
     unfolding startCall
-    start-tag answer h q = rw (passed state _ e z, stopped-by tag _ f h) ((λ i. outcome (q i) s) ∙ (λ i. outcome (reply (Answer.Refused (f i)) noIds) s))
+    start-tag answer h q = rw (passed state _ e z, stopped-by tag _ f h) (refusing-is s answer tag _ f q)
 
     pub start-lowered : (o : Outcome) (low last : List ℕ) (esi void : Bool) (kind : ℕ) → tag ≡ 0 → last ≡ written low 0 (map lowerOf name) → length name ≤ length low
         → esi ≡ esiOn (s .rows) → void ≡ voidName esi name → kind ≡ kindOf namespace void

@@ -14,6 +14,7 @@ use Rattle.weighing.specs.Words.{cell, noIds}
 use Rattle.accepting.specs.declared.Answer.{Answer}
 use Rattle.accepting.specs.declared.Reply.{Reply}
 use Rattle.accepting.specs.Accepting.{Outcome, outcome, reply, accepted}
+use Rattle.accepting.specs.Refusing.{refusing-is}
 use Rattle.course.specs.Course.{hasContent}
 use Rattle.tags.specs.Tags.{soughtOf, whole, begun}
 
@@ -31,7 +32,7 @@ released-refusal sheet program rows content found = rw (released-header rows 0 (
 module _ (sheet program : List ℕ) (old s : Stores) (name : List ℕ) (content : Bool) (found : List ℕ) (r : ℕ) (e : r ≡ pushRefusal sheet program (s .rows) content found) where
   pub whole-refused : (answer : Reply) → (r ≡ 0 → ⊥) → answer ≡ reply (Answer.Refused r) noIds → outcome answer old ≡ whole sheet program old s name content found
   unfolding whole
-  whole-refused answer h q = rw (stopped-by r _ e h) ((λ i. outcome (q i) old) ∙ (λ i. outcome (reply (Answer.Refused (e i)) noIds) old))
+  whole-refused answer h q = rw (stopped-by r _ e h) (refusing-is old answer r _ e q)
 
   pub whole-accepted : (o : Outcome) → r ≡ 0 → o ≡ accepted sheet program s name content found → o ≡ whole sheet program old s name content found
   unfolding whole

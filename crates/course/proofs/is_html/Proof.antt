@@ -1,6 +1,5 @@
 use mathlib.Core.Path.{refl}
 use Rattle.course.specs.Course.{isHtml}
-use borrow.Author.Needs.{needs}
 use Rattle.course.proofs.is_html.Statement.{statement}
 use Rattle.course.proofs.is_html.Tie as tie
 use Rattle.course.proofs.is_html.Reads as reads

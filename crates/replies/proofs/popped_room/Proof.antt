@@ -1,6 +1,5 @@
 use mathlib.Core.Path.{refl}
 use Rattle.replies.specs.Replies.{poppedRoom}
-use borrow.Author.Needs.{needs}
 use Rattle.replies.proofs.popped_room.Statement.{statement}
 use Rattle.replies.proofs.popped_room.Tie as tie
 use Rattle.replies.proofs.popped_room.Reads as reads

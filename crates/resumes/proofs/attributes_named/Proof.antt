@@ -1,4 +1,3 @@
-use mathlib.Core.Path.{_≡_, refl, sym, ap, _∙_}
 use native.Mathlib.Omega.{arith}
 use Rattle.course.specs.CourseLaws.{resumed-few, part-few}
 use Rattle.resumes.proofs.Laws.{given-is}

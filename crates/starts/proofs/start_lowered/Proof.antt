@@ -1,4 +1,3 @@
-use mathlib.Core.Path.{_≡_, refl, sym, ap, _∙_}
 use native.Mathlib.Omega.{arith}
 use Rattle.course.specs.CourseLaws.{begin-few, count-is, part-few}
 use Rattle.starts.proofs.Laws.{lowered-full, lowered-begun}
