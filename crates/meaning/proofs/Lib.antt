@@ -5,6 +5,7 @@ pub mod MatchLaws
 pub mod Carrying
 pub mod Scanning
 pub mod Names
+pub mod Types
 pub mod Answering
 pub mod Once
 pub mod Loading

@@ -6,6 +6,7 @@ pub mod Layout
 pub mod Selectors
 pub mod Match
 pub mod Elements
+pub mod Standard
 pub mod Tests
 -- What is demanded of a machine, and the machine that is proved to do it.
 pub mod Calls

@@ -1,9 +1,14 @@
--- The marked examples P1 to P9 of document 01, section 6, as one list of expected results.
-use Rattle.std.specs.Prelude.{◌≡◌, refl, Bool, true, false, List, [], ◌∷◌, pos, negsuc}
+-- The marked examples P1 to P9 of document 01, section 6, as one list of expected results; and E11 by an example.
+use Rattle.std.specs.Prelude.{◌≡◌, refl, Bool, true, false, List, [], ◌∷◌, ℕ, T, get_or, pos, negsuc}
+use Rattle.std.proofs.Common.{sym, ap, ◌∙◌, ⊎_elim, arith}
+use mathlib.Core.List.Memᴰ
 use Rattle.nth.specs.Nth.{nthHolds}
 use Rattle.letters.specs.Bytes.{sameBytes}
+use Rattle.letters.specs.BytesLaws.{fold-false}
 use Rattle.operators.specs.Operators.{emptyBytes, beginsWith, prefixHolds, suffixHolds, dashHolds, containsBytes, substringHolds, parts, split, somePart, includesHolds}
-use Rattle.node_tests.specs.Tests.{ignoresCase}
+use Rattle.node_tests.specs.Tests.{ignoresCase, exists, attributeHolds}
+use Rattle.rules.specs.Attributes.{Attribute, lookup, isThere}
+use Rattle.rules.specs.Standard.{HasAttribute}
 
 unfoldable pub computed : List Bool
 computed =
@@ -45,3 +50,20 @@ expected =
 pub examples : computed ≡ expected
 unfolding nthHolds computed expected sameBytes emptyBytes beginsWith prefixHolds suffixHolds dashHolds containsBytes substringHolds parts split somePart includesHolds ignoresCase
 examples = refl
+
+-- ---- E11: an SVG attribute `aB` passes the test `exists` of `ab`, where W3C's [ab] does not hold.
+
+abbrev upper : Attribute
+upper = record { name = 97 ∷ 66 ∷ []; value = [] }
+
+pub svg-holds : T (attributeHolds false (upper ∷ []) (exists (97 ∷ 98 ∷ [])))
+unfolding attributeHolds lookup isThere sameBytes
+svg-holds = tt
+
+pub svg-standard-not : HasAttribute false (97 ∷ 98 ∷ []) (upper ∷ []) → ⊥
+unfolding HasAttribute
+svg-standard-not (a, (m, e)) =
+    ⊎_elim
+    (λ q. let z = sym (ap (λ (x : Attribute). get_or x.name 1 0) q) ∙ ap (λ (l : List ℕ). get_or l 1 0) (sym (fold-false a.name) ∙ e) in let y : 66 ≡ 98 = sym (sym z) in omega arith)
+    (λ n. Memᴰ.not-nil n)
+    (Memᴰ.cases_cons m)

@@ -1,22 +1,24 @@
 -- When the tests of a sheet hold, in W3C's words (`Standard`), with the exceptions of document 01, section 5, and no others.
-use Rattle.std.specs.Prelude.{◌≡◌, refl, ◌↔◌, ◌⊎◌, Bool, ℕ, T, ℤ, pos}
+use Rattle.std.specs.Prelude.{◌≡◌, refl, ◌↔◌, ◌⊎◌, Bool, ℕ, T, ℤ, pos, length}
 use Rattle.std.proofs.Math.Path.{sym, ap, subst}
-use Rattle.std.proofs.Common.{◌∙◌, inl, inr, ⊎_elim}
+use Rattle.std.proofs.Common.{◌∙◌, inl, inr, ⊎_elim, arith}
+use Rattle.std.proofs.Math.Logic.Iff
 use Rattle.std.proofs.Math.Bool.{true, false}
-use mathlib.Core.List.{List, []}
+use mathlib.Core.List.{List, [], ◌∷◌}
 use Rattle.std.proofs.Math.Option.{Option, none, some}
-use Rattle.letters.specs.Bytes.{fold, equalBytes}
-use Rattle.letters.specs.BytesLaws.{fold-false, equal→eq, equal-refl}
+use Rattle.letters.specs.Bytes.{fold, equalBytes, sameBytes}
+use Rattle.letters.specs.BytesLaws.{equal→eq, equal-refl}
 use Rattle.nth.specs.Nth.{Nth}
 use Rattle.nth.specs.NthLaws.{nth-law}
 use Rattle.names.specs.NameLaws.{fold-twice, name-law}
 use Rattle.rules.specs.Attributes.{Attribute, lookup}
-use Rattle.rules.specs.AttributeLaws.{First, lookup-law, there-law}
+use Rattle.rules.specs.AttributeLaws.{lookup-law, there-law, exact, any-case-law, there-any-case}
 use Rattle.operators.specs.Operators.{operatorHolds, valueHolds}
-use Rattle.operators.specs.OperatorLaws.{equal-law, includes-law}
-use Rattle.node_tests.specs.Tests.{localName, nthChild, nthOfType, idIs, hasClass, exists, compares, idName, className, ignoresCase, tagHolds, attributeHolds, opposite}
-use Rattle.operators.specs.Standard.{Equal, Part, Includes}
-use Rattle.rules.specs.Standard.{HasAttribute, TypeSelector}
+use Rattle.operators.specs.OperatorLaws.{equal-law, includes-law, dash-law, prefix-law, suffix-law, substring-law}
+use Rattle.node_tests.specs.Tests.{TagTest, any, unmatchable, localName, nthChild, nthOfType, idIs, hasClass, exists, compares, idName, className, ignoresCase, tagHolds, attributeHolds, opposite}
+use Rattle.operators.specs.Standard.{Equal, Prefix, Suffix, Substring, Dash, Part, Includes}
+use Rattle.rules.specs.Standard.{TypeSelector, HasAttribute, First, WithValue, IdSelector, ClassSelector}
+use Rattle.rules.specs.Departures.{CaseIgnored, AnyCase}
 use Rattle.operators.specs.declared.Operator.{Operator}
 
 -- ---- tag tests
@@ -28,7 +30,7 @@ unfolding tagHolds TypeSelector
 local-name-law true name child ofType wanted = (λ t. inl ((name-law name wanted).0 t), ⊎_elim (name-law name wanted).1 (λ p. (name-law name wanted).1 p.1.1))
 local-name-law false name child ofType wanted = (
   (λ t. by_bytes (equalBytes name wanted) refl ((name-law name wanted).0 t)),
-  ⊎_elim (λ e. (name-law name wanted).1 (ap (fold true) (sym (fold-false name) ∙ e ∙ fold-false wanted))) (λ p. (name-law name wanted).1 p.1.1),
+  ⊎_elim (λ e. (name-law name wanted).1 (ap (fold true) (exact name wanted e))) (λ p. (name-law name wanted).1 p.1.1),
 )
   where
     by_bytes : (b : Bool) → equalBytes name wanted ≡ b → fold true name ≡ fold true wanted → (fold false name ≡ fold false wanted) ⊎ ((false ≡ false) × ((name ≡ wanted → ⊥) × (fold true name ≡ fold true wanted)))
@@ -44,55 +46,134 @@ pub nth-of-type-law : (name : List ℕ) (child ofType : ℕ) (step offset : ℤ)
 unfolding tagHolds
 nth-of-type-law name child ofType step offset = nth-law step offset (pos ofType)
 
+-- Lower-casing a tag's name first changes no test.
+pub lowered-same : (name : List ℕ) (child ofType : ℕ) (t : TagTest) → tagHolds (fold true name) child ofType t ≡ tagHolds name child ofType t
+unfolding tagHolds sameBytes
+lowered-same name child ofType any = refl
+lowered-same name child ofType unmatchable = refl
+lowered-same name child ofType (localName wanted) = rw (fold-twice name)
+lowered-same name child ofType (nthChild step offset) = refl
+lowered-same name child ofType (nthOfType step offset) = refl
+
 -- ---- attribute tests
 
 -- a value passes exactly when it is the first one's and the operator holds for it
-value-law : (operator : Operator) (f : Bool) (operand wanted : List ℕ) (attributes : List Attribute)
-    → T (valueHolds operator f operand (lookup wanted attributes)) ↔ ((value : List ℕ) × (First wanted value attributes × T (operatorHolds operator f value operand)))
-unfolding valueHolds
-value-law operator f operand wanted attributes = (to (lookup wanted attributes) refl, from)
+value-law : (operator : Operator) (f : Bool) (operand name : List ℕ) (attributes : List Attribute)
+    → T (valueHolds operator f operand (lookup (fold true name) attributes)) ↔ WithValue true name (λ value. T (operatorHolds operator f value operand)) attributes
+unfolding valueHolds WithValue
+value-law operator f operand name attributes = (to (lookup (fold true name) attributes) refl, from)
   where
-    to : (o : Option (List ℕ)) → lookup wanted attributes ≡ o → T (valueHolds operator f operand o) → (value : List ℕ) × (First wanted value attributes × T (operatorHolds operator f value operand))
+    to : (o : Option (List ℕ)) → lookup (fold true name) attributes ≡ o → T (valueHolds operator f operand o) → (value : List ℕ) × (First true name value attributes × T (operatorHolds operator f value operand))
     to none e t = absurd t
-    to (some value) e t = (value, ((lookup-law wanted attributes value).0 e, t))
+    to (some value) e t = (value, ((lookup-law name attributes value).0 e, t))
 
-    from : ((value : List ℕ) × (First wanted value attributes × T (operatorHolds operator f value operand))) → T (valueHolds operator f operand (lookup wanted attributes))
-    from (value, (p, t)) = subst (λ (o : Option (List ℕ)). T (valueHolds operator f operand o)) (sym ((lookup-law wanted attributes value).1 p)) t
+    from : ((value : List ℕ) × (First true name value attributes × T (operatorHolds operator f value operand))) → T (valueHolds operator f operand (lookup (fold true name) attributes))
+    from (value, (p, t)) = subst (λ (o : Option (List ℕ)). T (valueHolds operator f operand o)) (sym ((lookup-law name attributes value).1 p)) t
 
+by-value : {P Q : List ℕ → Type 0} (name : List ℕ) (attributes : List Attribute) → ((value : List ℕ) → P value ↔ Q value) → WithValue true name P attributes ↔ WithValue true name Q attributes
+unfolding WithValue
+by-value name attributes same = ((λ (value, (p, h)). (value, (p, (same value).0 h))), (λ (value, (p, h)). (value, (p, (same value).1 h))))
+
+-- what the operator of an id or a class says of a value, with E9 and E2
+id-value : (quirks : Bool) (operand value : List ℕ) → T (operatorHolds Operator.Equal false value operand) ↔ ((IdSelector quirks value operand × (T quirks → IdSelector false value operand)) ⊎ ((operand ≡ []) × (value ≡ [])))
+unfolding operatorHolds IdSelector Equal
+id-value quirks operand value = (λ t. to operand ((equal-law false value operand).0 t), λ s. (equal-law false value operand).1 (from quirks s))
+  where
+    to : (x : List ℕ) → fold false value ≡ fold false x → (((x ≡ [] → ⊥) × (fold quirks value ≡ fold quirks x)) × (T quirks → (x ≡ [] → ⊥) × (fold false value ≡ fold false x))) ⊎ ((x ≡ []) × (value ≡ []))
+    to [] e = inr (refl, exact value [] e)
+    to (b ∷ x) e =
+        let n : b ∷ x ≡ [] → ⊥ = λ z. let k = ap length z in omega arith in
+        inl ((n, ap (fold quirks) (exact value (b ∷ x) e)), λ q. (n, e))
+
+    from : (q : Bool) → (((operand ≡ [] → ⊥) × (fold q value ≡ fold q operand)) × (T q → (operand ≡ [] → ⊥) × (fold false value ≡ fold false operand))) ⊎ ((operand ≡ []) × (value ≡ [])) → fold false value ≡ fold false operand
+    from true (inl (h, k)) = (k tt).1
+    from false (inl (h, k)) = h.1
+    from q (inr (z, w)) = ap (fold false) (w ∙ sym z)
+
+class-value : (quirks : Bool) (operand value : List ℕ)
+    → T (operatorHolds Operator.Includes false value operand) ↔ ((ClassSelector quirks value operand × (T quirks → ClassSelector false value operand)) ⊎ ((operand ≡ []) × Part value []))
+unfolding operatorHolds ClassSelector Includes
+class-value quirks operand value = (
+  (λ t. ⊎_elim (λ h. inl (lax h, λ q. h)) inr ((includes-law false value operand).0 t)),
+  (λ s. (includes-law false value operand).1 (from quirks s)),
+)
+  where
+    lax : Includes false value operand → Includes quirks value operand
+    lax (n, (c, (p, (q, e)))) = (n, (c, (p, (q, ap (fold quirks) (exact p operand e)))))
+
+    from : (q : Bool) → ((Includes q value operand × (T q → Includes false value operand)) ⊎ ((operand ≡ []) × Part value [])) → Includes false value operand ⊎ ((operand ≡ []) × Part value [])
+    from true (inl (h, k)) = inl (k tt)
+    from false (inl (h, k)) = inl h
+    from q (inr p) = inr p
+
+-- Each looks at W3C's attribute, save by E11 (`AnyCase`), and says of its value what follows.
 module _ (html : Bool) (attributes : List Attribute) where
-  -- E9: an id is compared exactly, whatever the namespace; E2: an empty operand matches an empty id.
-  pub id-law : (operand : List ℕ) → T (attributeHolds html attributes (idIs operand)) ↔ First idName operand attributes
-  unfolding attributeHolds operatorHolds Equal
-  id-law operand = (
-    (λ t. let (value, (p, e)) = (value-law Operator.Equal false operand idName attributes).0 t in
-        subst (λ (v : List ℕ). First idName v attributes) (sym (fold-false value) ∙ (equal-law false value operand).0 e ∙ fold-false operand) p),
-    (λ p. (value-law Operator.Equal false operand idName attributes).1 (operand, (p, (equal-law false operand operand).1 refl))),
-  )
+  by-operator : (operator : Operator) (f : Bool) (operand name : List ℕ) (Says : List ℕ → Type 0) → ((value : List ℕ) → T (operatorHolds operator f value operand) ↔ Says value)
+      → T (valueHolds operator f operand (lookup (fold true name) attributes)) ↔ AnyCase html name Says attributes
+  by-operator operator f operand name Says same = Iff.trans (value-law operator f operand name attributes) (Iff.trans (by-value name attributes same) (any-case-law name html Says attributes))
 
-  -- E9: a class is compared exactly; E2: an empty operand matches where some part of the value is empty.
-  pub class-law : (operand : List ℕ)
-      → T (attributeHolds html attributes (hasClass operand)) ↔ ((value : List ℕ) × (First className value attributes × (Includes false value operand ⊎ ((operand ≡ []) × Part value []))))
-  unfolding attributeHolds operatorHolds
-  class-law operand = (
-    (λ t. let (value, (p, h)) = (value-law Operator.Includes false operand className attributes).0 t in (value, (p, (includes-law false value operand).0 h))),
-    (λ (value, (p, h)). (value-law Operator.Includes false operand className attributes).1 (value, (p, (includes-law false value operand).1 h))),
-  )
+  -- W3C's id selector; E9: in quirks documents only where it holds in others too; E2: an empty operand matches an empty id.
+  pub id-law : (quirks : Bool) (operand : List ℕ)
+      → T (attributeHolds html attributes (idIs operand)) ↔ AnyCase html idName (λ value. (IdSelector quirks value operand × (T quirks → IdSelector false value operand)) ⊎ ((operand ≡ []) × (value ≡ []))) attributes
+  unfolding attributeHolds idName
+  id-law quirks operand = by-operator Operator.Equal false operand idName _ (id-value quirks operand)
 
-  -- E4: an exists name with a capital is never found; any other is W3C's [att]. (E11: in every namespace.)
-  pub exists-law : (name : List ℕ) → T (attributeHolds html attributes (exists name)) ↔ (HasAttribute name attributes × (fold true name ≡ name))
+  -- W3C's class selector; E9: in quirks documents only where it holds in others too; E2: an empty operand matches where some part of the value is empty.
+  pub class-law : (quirks : Bool) (operand : List ℕ)
+      → T (attributeHolds html attributes (hasClass operand)) ↔ AnyCase html className (λ value. (ClassSelector quirks value operand × (T quirks → ClassSelector false value operand)) ⊎ ((operand ≡ []) × Part value [])) attributes
+  unfolding attributeHolds className
+  class-law quirks operand = by-operator Operator.Includes false operand className _ (class-value quirks operand)
+
+  -- W3C's [att]; E11: or the attribute is there in other case, outside HTML; E4: a name with a capital is never found.
+  pub exists-law : (name : List ℕ) → T (attributeHolds html attributes (exists name)) ↔ ((HasAttribute html name attributes ⊎ CaseIgnored html name attributes) × (fold true name ≡ name))
   unfolding attributeHolds HasAttribute
   exists-law name = (
     (λ t. let (a, (m, e)) = (there-law name attributes).0 t in
         let low : fold true name ≡ name = ap (fold true) (sym e) ∙ fold-twice a.name ∙ e in
-        ((a, (m, e ∙ sym low)), low)),
-    (λ ((a, (m, e)), low). (there-law name attributes).1 (a, (m, e ∙ low))),
+        ((there-any-case name html attributes).0 (a, (m, e ∙ sym low)), low)),
+    (λ (h, low). let (a, (m, e)) = (there-any-case name html attributes).1 h in (there-law name attributes).1 (a, (m, e ∙ low))),
   )
 
-  -- A comparison looks at the first attribute of the lower-cased name; `OperatorLaws` says what its operator means.
+  -- A comparison, by what its operator computes; the six laws below say it in W3C's words.
   pub compares-law : (operator : Operator) (case : ℕ) (name operand : List ℕ)
-      → T (attributeHolds html attributes (compares operator case name operand)) ↔ ((value : List ℕ) × (First (fold true name) value attributes × T (operatorHolds operator (ignoresCase case html) value operand)))
+      → T (attributeHolds html attributes (compares operator case name operand)) ↔ AnyCase html name (λ value. T (operatorHolds operator (ignoresCase case html) value operand)) attributes
   unfolding attributeHolds
-  compares-law operator case name operand = value-law operator (ignoresCase case html) operand (fold true name) attributes
+  compares-law operator case name operand = by-operator operator (ignoresCase case html) operand name _ (λ value. Iff.rfl)
+
+  module _ (case : ℕ) (name operand : List ℕ) where
+    -- a comparison holds exactly when of the value of the attribute of the name is said so
+    abbrev Comparing : Operator → (List ℕ → Type 0) → Type 0
+    Comparing operator Says = T (attributeHolds html attributes (compares operator case name operand)) ↔ AnyCase html name Says attributes
+
+    -- [att=val]
+    pub equal-test-law : Comparing Operator.Equal (λ value. Equal (ignoresCase case html) value operand)
+    unfolding attributeHolds operatorHolds
+    equal-test-law = by-operator Operator.Equal (ignoresCase case html) operand name _ (λ value. equal-law (ignoresCase case html) value operand)
+
+    -- [att~=val]; E2: an empty operand matches where some part of the value is empty.
+    pub includes-test-law : Comparing Operator.Includes (λ value. Includes (ignoresCase case html) value operand ⊎ ((operand ≡ []) × Part value []))
+    unfolding attributeHolds operatorHolds
+    includes-test-law = by-operator Operator.Includes (ignoresCase case html) operand name _ (λ value. includes-law (ignoresCase case html) value operand)
+
+    -- [att|=val]
+    pub dash-test-law : Comparing Operator.Dash (λ value. Dash (ignoresCase case html) value operand)
+    unfolding attributeHolds operatorHolds
+    dash-test-law = by-operator Operator.Dash (ignoresCase case html) operand name _ (λ value. dash-law (ignoresCase case html) value operand)
+
+    -- [att^=val]; E1: an empty operand matches any value that is not empty.
+    pub prefix-test-law : Comparing Operator.Prefix (λ value. Prefix (ignoresCase case html) value operand ⊎ ((operand ≡ []) × (value ≡ [] → ⊥)))
+    unfolding attributeHolds operatorHolds
+    prefix-test-law = by-operator Operator.Prefix (ignoresCase case html) operand name _ (λ value. prefix-law (ignoresCase case html) value operand)
+
+    -- [att$=val]; E1
+    pub suffix-test-law : Comparing Operator.Suffix (λ value. Suffix (ignoresCase case html) value operand ⊎ ((operand ≡ []) × (value ≡ [] → ⊥)))
+    unfolding attributeHolds operatorHolds
+    suffix-test-law = by-operator Operator.Suffix (ignoresCase case html) operand name _ (λ value. suffix-law (ignoresCase case html) value operand)
+
+    -- [att*=val]
+    pub substring-test-law : Comparing Operator.Substring (λ value. Substring (ignoresCase case html) value operand)
+    unfolding attributeHolds operatorHolds
+    substring-test-law = by-operator Operator.Substring (ignoresCase case html) operand name _ (λ value. substring-law (ignoresCase case html) value operand)
 
 -- ---- negation
 

@@ -1,20 +1,18 @@
--- What a lookup finds: the first attribute of the name, or that there is none (01, section 3).
+-- What a lookup finds: the first attribute of the name, or that there is none (01, section 3); and where that leaves W3C (E11).
 use Rattle.std.proofs.Math.Path.{◌≡◌, refl, ap}
-use Rattle.std.specs.Prelude.{◌↔◌, Bool, ℕ}
-use Rattle.std.proofs.Common.{⊎_elim, arith}
+use Rattle.std.specs.Prelude.{◌↔◌, ◌⊎◌, Bool, ℕ}
+use Rattle.std.proofs.Common.{sym, ◌∙◌, inl, inr, ⊎_elim, arith}
 use Rattle.std.proofs.Math.Bool.{true, false, cond}
 use mathlib.Core.List.Memᴰ
 use mathlib.Core.List.{List, [], ◌∷◌, Memᴰ}
 use Rattle.std.proofs.Math.Option.{some}
 use Rattle.std.proofs.Math.Dec.{T}
-use Rattle.letters.specs.Bytes.{fold, sameBytes}
-use Rattle.letters.specs.BytesLaws.{holds, exact-law}
+use Rattle.std.proofs.lemmas.Bool.{false≢true}
+use Rattle.letters.specs.Bytes.{fold, equalBytes, sameBytes}
+use Rattle.letters.specs.BytesLaws.{holds, fold-false, equal→eq, equal-refl, same-law, exact-law}
 use Rattle.rules.specs.Attributes.{Attribute, lookup, isThere}
-
--- The value is that of the first attribute whose lower-cased name is the wanted one.
-pub data First (wanted value : List ℕ) : List Attribute → Type 0 where
-  here : {a : Attribute} {more : List Attribute} → fold true a.name ≡ wanted → a.value ≡ value → First wanted value (a ∷ more)
-  later : {a : Attribute} {more : List Attribute} → (fold true a.name ≡ wanted → ⊥) → First wanted value more → First wanted value (a ∷ more)
+use Rattle.rules.specs.Standard.{HasAttribute, First, WithValue}
+use Rattle.rules.specs.Departures.{OtherCase, CaseIgnored, AnyCase}
 
 module _ (wanted : List ℕ) where
   named : (a : Attribute) → sameBytes true false a.name wanted ≡ true → fold true a.name ≡ wanted
@@ -22,30 +20,6 @@ module _ (wanted : List ℕ) where
 
   not_named : (a : Attribute) → sameBytes true false a.name wanted ≡ false → fold true a.name ≡ wanted → ⊥
   not_named a e n = rw e at ((exact-law true a.name wanted).1 n)
-
-  to-first : (attributes : List Attribute) (value : List ℕ) → lookup wanted attributes ≡ some value → First wanted value attributes
-  unfolding lookup
-  to-first [] value e = let q : ◌≡◌ {A = ℕ} 0 1 = cc in absurd (omega arith)
-  to-first (a ∷ more) value e = go (sameBytes true false a.name wanted) refl e (to-first more value)
-    where
-      go : (b : Bool) → sameBytes true false a.name wanted ≡ b → cond b (some a.value) (lookup wanted more) ≡ some value → (lookup wanted more ≡ some value → First wanted value more) → First wanted value (a ∷ more)
-      go true s e ih = First.here {a = a} (named a s) (cc)
-      go false s e ih = First.later (not_named a s) (ih e)
-
-  from_first : (attributes : List Attribute) (value : List ℕ) → First wanted value attributes → lookup wanted attributes ≡ some value
-  unfolding lookup
-  from_first [] value f = elim f [ ]
-  from_first (a ∷ more) value f = go (sameBytes true false a.name wanted) refl f (from_first more value)
-    where
-      go : (b : Bool) → sameBytes true false a.name wanted ≡ b → First wanted value (a ∷ more) → (First wanted value more → lookup wanted more ≡ some value) → cond b (some a.value) (lookup wanted more) ≡ some value
-      go true s (First.here n v) ih = ap some v
-      go true s (First.later n f) ih = absurd (n (named a s))
-      go false s (First.here n v) ih = absurd (not_named a s n)
-      go false s (First.later n f) ih = ih f
-
-  -- A lookup gives a value exactly when it is the first one's.
-  pub lookup-law : (attributes : List Attribute) (value : List ℕ) → (lookup wanted attributes ≡ some value) ↔ First wanted value attributes
-  lookup-law attributes value = (to-first attributes value, from_first attributes value)
 
   -- It finds something exactly when some attribute has the name.
   pub there-law : (attributes : List Attribute) → T (isThere (lookup wanted attributes)) ↔ ((a : Attribute) × (Memᴰ a attributes × (fold true a.name ≡ wanted)))
@@ -60,3 +34,98 @@ module _ (wanted : List ℕ) where
         (λ t. let (x, (m, e)) = ih.0 t in (x, (Memᴰ.tail m, e))),
         (λ (x, (m, e)). ih.1 (⊎_elim (λ q. absurd (not_named a s (rw q at e))) (λ n. (x, (n, e))) (Memᴰ.cases_cons m))),
       )
+
+module _ (name : List ℕ) where
+  to-first : (attributes : List Attribute) (value : List ℕ) → lookup (fold true name) attributes ≡ some value → First true name value attributes
+  unfolding lookup
+  to-first [] value e = let q : ◌≡◌ {A = ℕ} 0 1 = cc in absurd (omega arith)
+  to-first (a ∷ more) value e = go (sameBytes true false a.name (fold true name)) refl e (to-first more value)
+    where
+      go : (b : Bool) → sameBytes true false a.name (fold true name) ≡ b → cond b (some a.value) (lookup (fold true name) more) ≡ some value → (lookup (fold true name) more ≡ some value → First true name value more) → First true name value (a ∷ more)
+      go true s e ih = First.here {a = a} (named (fold true name) a s) (cc)
+      go false s e ih = First.later (not_named (fold true name) a s) (ih e)
+
+  from_first : (attributes : List Attribute) (value : List ℕ) → First true name value attributes → lookup (fold true name) attributes ≡ some value
+  unfolding lookup
+  from_first [] value f = elim f [ ]
+  from_first (a ∷ more) value f = go (sameBytes true false a.name (fold true name)) refl f (from_first more value)
+    where
+      go : (b : Bool) → sameBytes true false a.name (fold true name) ≡ b → First true name value (a ∷ more) → (First true name value more → lookup (fold true name) more ≡ some value) → cond b (some a.value) (lookup (fold true name) more) ≡ some value
+      go true s (First.here n v) ih = ap some v
+      go true s (First.later n f) ih = absurd (n (named (fold true name) a s))
+      go false s (First.here n v) ih = absurd (not_named (fold true name) a s n)
+      go false s (First.later n f) ih = ih f
+
+  -- A lookup gives a value exactly when it is the first one's.
+  pub lookup-law : (attributes : List Attribute) (value : List ℕ) → (lookup (fold true name) attributes ≡ some value) ↔ First true name value attributes
+  lookup-law attributes value = (to-first attributes value, from_first attributes value)
+
+-- ---- E11
+
+-- where case counts, equal under the case rule is equal
+pub exact : (a b : List ℕ) → fold false a ≡ fold false b → a ≡ b
+exact a b e = sym (fold-false a) ∙ e ∙ fold-false b
+
+module _ (name : List ℕ) where
+  differs : (a : Attribute) → equalBytes a.name name ≡ false → a.name ≡ name → ⊥
+  differs a e z = false≢true (sym e ∙ ap (equalBytes a.name) (sym z) ∙ equal-refl a.name)
+
+  none-later : (a : Attribute) (more : List Attribute) → ((a.name ≡ name → ⊥) → fold true a.name ≡ fold true name → ⊥) → (OtherCase name more → ⊥) → OtherCase name (a ∷ more) → ⊥
+  unfolding OtherCase
+  none-later a more n k (x, (m, (d, e))) = ⊎_elim (λ q. n (rw q at d) (rw q at e)) (λ l. k (x, (l, (d, e)))) (Memᴰ.cases_cons m)
+
+  -- some attribute has the name in other case, or none has
+  other : (attributes : List Attribute) → OtherCase name attributes ⊎ (OtherCase name attributes → ⊥)
+  unfolding OtherCase
+  other [] = inr (λ p. absurd (Memᴰ.not-nil p.1.0))
+  other (a ∷ more) = go (equalBytes a.name name) refl (sameBytes true true a.name name) refl (other more)
+    where
+      go : (x : Bool) → equalBytes a.name name ≡ x → (y : Bool) → sameBytes true true a.name name ≡ y → OtherCase name more ⊎ (OtherCase name more → ⊥) → OtherCase name (a ∷ more) ⊎ (OtherCase name (a ∷ more) → ⊥)
+      go x e y s (inl (b, (m, q))) = inl (b, (Memᴰ.tail m, q))
+      go true e y s (inr k) = inr (none-later a more (λ d h. d (equal→eq a.name name (holds e))) k)
+      go false e true s (inr k) = inl (a, (Memᴰ.head refl, (differs a e, (same-law true true a.name name).0 (holds s))))
+      go false e false s (inr k) = inr (none-later a more (λ d h. rw s at ((same-law true true a.name name).1 h)) k)
+
+  module _ (value : List ℕ) where
+    -- where no attribute has the name in other case, the first is the same with case ignored and without
+    to-exact : (attributes : List Attribute) → (OtherCase name attributes → ⊥) → First true name value attributes → First false name value attributes
+    unfolding OtherCase
+    to-exact [] k f = elim f [ ]
+    to-exact (a ∷ more) k f = go (equalBytes a.name name) refl f (to-exact more (λ (x, (m, q)). k (x, (Memᴰ.tail m, q))))
+      where
+        go : (b : Bool) → equalBytes a.name name ≡ b → First true name value (a ∷ more) → (First true name value more → First false name value more) → First false name value (a ∷ more)
+        go true e (First.here n v) ih = First.here (ap (fold false) (equal→eq a.name name (holds e))) v
+        go false e (First.here n v) ih = absurd (k (a, (Memᴰ.head refl, (differs a e, n))))
+        go b e (First.later n f) ih = First.later (λ z. n (ap (fold true) (exact a.name name z))) (ih f)
+
+    from-exact : (attributes : List Attribute) → (OtherCase name attributes → ⊥) → First false name value attributes → First true name value attributes
+    unfolding OtherCase
+    from-exact [] k f = elim f [ ]
+    from-exact (a ∷ more) k f = go (sameBytes true true a.name name) refl f (from-exact more (λ (x, (m, q)). k (x, (Memᴰ.tail m, q))))
+      where
+        go : (b : Bool) → sameBytes true true a.name name ≡ b → First false name value (a ∷ more) → (First false name value more → First true name value more) → First true name value (a ∷ more)
+        go b s (First.here n v) ih = First.here (ap (fold true) (exact a.name name n)) v
+        go true s (First.later n f) ih = absurd (k (a, (Memᴰ.head refl, ((λ z. n (ap (fold false) z)), (same-law true true a.name name).0 (holds s)))))
+        go false s (First.later n f) ih = First.later (λ h. rw s at ((same-law true true a.name name).1 h)) (ih f)
+
+  -- E11: with case ignored everywhere, the attribute looked at is W3C's unless outside HTML some attribute has the name in other case.
+  pub any-case-law : (html : Bool) (Says : List ℕ → Type 0) (attributes : List Attribute) → WithValue true name Says attributes ↔ AnyCase html name Says attributes
+  unfolding WithValue AnyCase CaseIgnored
+  any-case-law true Says attributes = (λ w. inl ((λ p. false≢true (sym p.0)), w), ⊎_elim (λ p. p.1) (λ p. p.1))
+  any-case-law false Says attributes = (
+    (λ (v, (f, s)). ⊎_elim (λ o. inr ((refl, o), (v, (f, s)))) (λ k. inl ((λ p. k p.1), (v, (to-exact v attributes k f, s)))) (other attributes)),
+    ⊎_elim (λ (n, (v, (f, s))). (v, (from-exact v attributes (λ o. n (refl, o)) f, s))) (λ p. p.1),
+  )
+
+  -- The same of an attribute that is there.
+  pub there-any-case : (html : Bool) (attributes : List Attribute) → HasAttribute true name attributes ↔ (HasAttribute html name attributes ⊎ CaseIgnored html name attributes)
+  unfolding HasAttribute CaseIgnored OtherCase
+  there-any-case true attributes = (inl, ⊎_elim (λ h. h) (λ p. absurd (false≢true (sym p.0))))
+  there-any-case false attributes = (to, ⊎_elim (λ (a, (m, e)). (a, (m, ap (fold true) (exact a.name name e)))) (λ (z, (a, (m, (d, e)))). (a, (m, e))))
+    where
+      to : (a : Attribute) × (Memᴰ a attributes × (fold true a.name ≡ fold true name)) → ((a : Attribute) × (Memᴰ a attributes × (fold false a.name ≡ fold false name))) ⊎ ((false ≡ false) × OtherCase name attributes)
+      to (a, (m, e)) = go (equalBytes a.name name) refl
+        where
+          go : (b : Bool) → equalBytes a.name name ≡ b → ((a : Attribute) × (Memᴰ a attributes × (fold false a.name ≡ fold false name))) ⊎ ((false ≡ false) × OtherCase name attributes)
+          go true q = inl (a, (m, ap (fold false) (equal→eq a.name name (holds q))))
+          go false q = inr (refl, (a, (m, (differs a q, e))))

@@ -1,3 +1,4 @@
 pub mod Attributes
 pub mod Standard
+pub mod Departures
 pub mod AttributeLaws

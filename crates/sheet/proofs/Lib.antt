@@ -1,3 +1,4 @@
 pub mod WalkLaws
 pub mod SheetLaws
 pub mod SpellingLaws
+pub mod TypeLaws

@@ -1,0 +1,2 @@
+-- What the crates above use.
+pub mod Answering
