@@ -13,3 +13,7 @@ pub mod Compiling
 pub mod Weighing
 pub mod Turning
 pub mod Theorem
+-- By which numbers a call is refused, and what a C caller can rely on.
+pub mod Numbers
+pub mod MakingNumbers
+pub mod Callers

@@ -5,3 +5,5 @@ pub mod Statement
 -- The machine that the stores stand for.
 pub mod Rows
 pub mod Decode
+pub mod Numbers
+pub mod Callers
