@@ -14,7 +14,7 @@ use pushes::push_item;
 use shapes::counts_types;
 
 /// The answer to a start tag or to attributes: it matches, with the content flag; it waits for its attributes; or a refusal's number.
-#[derive(Drop)]
+#[derive(Clone, Copy)]
 pub enum Answer {
     Match(bool),
     Attributes,
@@ -22,7 +22,7 @@ pub enum Answer {
 }
 
 /// The ids of a match beside the answer; no id otherwise.
-#[derive(Drop)]
+#[derive(Clone, Copy)]
 pub struct Reply {
     pub answer: Answer,
     pub ids: [u64; 2],

@@ -8,7 +8,7 @@ use cells::get32;
 use cursors::{Cursor, Jump, Ranges};
 
 // The cursor on the next instruction whose key fits, with the budget for what comes after it.
-#[derive(Drop)]
+#[derive(Clone, Copy)]
 pub enum Candidate {
     At(Cursor, usize),
     Over,

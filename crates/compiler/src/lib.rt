@@ -21,7 +21,7 @@ struct Placed {
 }
 
 /// Made, and whether nth-of-type is in use; or 01's number and place.
-#[derive(Drop)]
+#[derive(Clone, Copy)]
 pub enum Compiled {
     Made(bool),
     Refused(u8, usize),

@@ -17,14 +17,14 @@ pub enum Popped {
 }
 
 /// The top open element's ids are beside the answer; nothing is open; or a refusal's number.
-#[derive(Drop)]
+#[derive(Clone, Copy)]
 pub enum Top {
     Ids,
     NothingOpen,
     Refused(u32),
 }
 
-#[derive(Drop)]
+#[derive(Clone, Copy)]
 pub struct TopReply {
     pub top: Top,
     pub ids: [u64; 2],

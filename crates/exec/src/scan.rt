@@ -11,7 +11,7 @@ use cursors::{Cursor, Ranges};
 use instructions::instruction::{asks_attributes, attributes_pass, tag_tests_pass, tests_bytes};
 
 // How many instructions matched, and whether one asks for attributes: the cursor stands on it, or is all 0.
-#[derive(Drop)]
+#[derive(Clone, Copy)]
 pub struct Scanned {
     pub count: usize,
     pub stuck: bool,

@@ -11,7 +11,7 @@ use waiting::fresh_rows;
 use weighing::cell_of;
 
 /// Made; refused for its sheet, with the place; or 31.
-#[derive(Drop)]
+#[derive(Clone, Copy)]
 pub enum Made {
     Made,
     Sheet(u8, usize),

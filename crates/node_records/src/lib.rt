@@ -9,14 +9,14 @@ use cells::numbers::u16_at;
 use cells::{at8, get8, part_of};
 
 // Where the next piece begins, or a refusal and its place.
-#[derive(Drop)]
+#[derive(Clone, Copy)]
 pub enum Step {
     Next(usize),
     Refused(u8, usize),
 }
 
 // Where a record ends and how many child trees and descendant trees follow it, or a refusal and its place.
-#[derive(Drop)]
+#[derive(Clone, Copy)]
 pub enum Counts {
     Read {
         next: usize,

@@ -63,7 +63,7 @@ pub fn any_of_type(s: &[u8], end: usize, count: usize, at: usize) -> bool
 }
 
 /// Where a record ends, and how many child trees and descendant trees follow it.
-#[derive(Drop)]
+#[derive(Clone, Copy)]
 pub struct Links {
     pub next: usize,
     pub children: usize,
@@ -85,7 +85,7 @@ pub fn links_at(s: &[u8], at: usize) -> Links
 }
 
 /// Neighbouring addresses; none if the count is 0.
-#[derive(Drop)]
+#[derive(Clone, Copy)]
 pub struct AddressRange {
     pub first: u32,
     pub count: u32,

@@ -17,7 +17,7 @@ enum Walk {
 }
 
 /// The answer: good, or 01's number and place.
-#[derive(Drop)]
+#[derive(Clone, Copy)]
 pub enum Checked {
     Good,
     Refused(u8, usize),

@@ -10,7 +10,7 @@ use making::Made;
 
 /// What a call is answered. `kind` 0: refused, `refusal` is 01's number and `value` the place of a sheet's fault; 1: made; 2: match, `value` is the content flag; 3: waits for attributes; 4: `value` elements were popped; 5: ids of the top open element; 6: nothing is open. Id i is bit i of `low`, or bit i - 64 of `high`.
 #[repr(C)]
-#[derive(Drop)]
+#[derive(Clone, Copy)]
 pub struct Told {
     pub kind: u32,
     pub refusal: u32,
