@@ -9,7 +9,7 @@ use cells::{at8, put32};
 
 // What a record says. A start tag has its namespace, and its name from byte 2 of the body on; an end tag has its name from byte 1 on;
 // attributes have the self-closing mark and how many numbers their outlines are.
-#[derive(Drop)]
+#[derive(Clone, Copy)]
 pub enum Record {
     Start(u32),
     Attributes(bool, usize),
@@ -18,7 +18,7 @@ pub enum Record {
 }
 
 // Where the next attribute starts.
-#[derive(Drop)]
+#[derive(Clone, Copy)]
 pub enum Step {
     Next(usize),
     Faulty,

@@ -7,7 +7,7 @@ ghost use Rattle.block_ends.specs.BlockEnds.{badFed, badOut, cutFed, cutOut, beg
 use lines::put_bad_trace;
 
 // Why a run over a block ended: it wants more bytes, it wants room for lines, or the last word is said.
-#[derive(Drop)]
+#[derive(Clone, Copy)]
 pub enum Halt {
     Hungry,
     Full,
@@ -15,7 +15,7 @@ pub enum Halt {
 }
 
 // How many bytes of the block are used and how many of the buffer are written.
-#[derive(Drop)]
+#[derive(Clone, Copy)]
 pub struct Fed {
     pub used: usize,
     pub wrote: usize,
@@ -23,7 +23,7 @@ pub struct Fed {
 }
 
 // Where the first record of a block begins; or the trace has not begun, and whether that is a fault.
-#[derive(Drop)]
+#[derive(Clone, Copy)]
 pub enum Begin {
     At(usize),
     Not(bool),

@@ -6,7 +6,7 @@ ghost use Rattle.id_sets.specs.Ids.{hasId, idsFrom, ids_of, first_of, withId, un
 
 use cells::{get64, put64};
 
-#[derive(Drop)]
+#[derive(Clone, Copy)]
 pub enum Next {
     Id(usize),
     Nothing,

@@ -1,3 +1,4 @@
 pub mod Tests
 pub mod Exceptions
+pub mod LoweredLaws
 pub mod Examples

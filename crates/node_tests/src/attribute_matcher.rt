@@ -5,7 +5,7 @@ ghost use Rattle.node_tests.specs.Tests.{attributeTestHolds, readAttributeTest};
 
 use crate::attribute_test_holds;
 
-#[derive(Drop)]
+#[derive(Clone, Copy)]
 pub struct AttributeMatcher<'i, 'o> {
     input: &'i [u8],
     outlines: &'o [u32],

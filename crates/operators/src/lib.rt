@@ -7,7 +7,7 @@ ghost use Rattle.operators.specs.Operators.{beginsWith, prefixHolds, suffixHolds
 use cells::part_of;
 use letters::{is_attr_whitespace, same};
 
-#[derive(Drop)]
+#[derive(Clone, Copy)]
 pub enum Operator {
     Equal,
     Includes,

@@ -12,7 +12,7 @@ use cells::numbers::{u16_at, u32_at};
 use cells::{at8, get8};
 
 // Where a record ends, if all of it is there.
-#[derive(Drop)]
+#[derive(Clone, Copy)]
 pub enum Cut {
     Whole(usize),
     Short,

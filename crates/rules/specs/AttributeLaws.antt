@@ -13,6 +13,7 @@ use Rattle.letters.specs.BytesLaws.{holds, fold-false, equal→eq, equal-refl, s
 use Rattle.rules.specs.Attributes.{Attribute, lookup, isThere}
 use Rattle.rules.specs.Standard.{HasAttribute, First, WithValue}
 use Rattle.rules.specs.Departures.{OtherCase, CaseIgnored, AnyCase}
+use Rattle.rules.specs.Lowered.{FirstLowered}
 
 module _ (wanted : List ℕ) where
   named : (a : Attribute) → sameBytes true false a.name wanted ≡ true → fold true a.name ≡ wanted
@@ -59,6 +60,31 @@ module _ (name : List ℕ) where
   -- A lookup gives a value exactly when it is the first one's.
   pub lookup-law : (attributes : List Attribute) (value : List ℕ) → (lookup (fold true name) attributes ≡ some value) ↔ First true name value attributes
   lookup-law attributes value = (to-first attributes value, from_first attributes value)
+
+module _ (wanted : List ℕ) where
+  to-lowered : (attributes : List Attribute) (value : List ℕ) → lookup wanted attributes ≡ some value → FirstLowered wanted value attributes
+  unfolding lookup
+  to-lowered [] value e = let q : ◌≡◌ {A = ℕ} 0 1 = cc in absurd (omega arith)
+  to-lowered (a ∷ more) value e = go (sameBytes true false a.name wanted) refl e (to-lowered more value)
+    where
+      go : (b : Bool) → sameBytes true false a.name wanted ≡ b → cond b (some a.value) (lookup wanted more) ≡ some value → (lookup wanted more ≡ some value → FirstLowered wanted value more) → FirstLowered wanted value (a ∷ more)
+      go true s e ih = FirstLowered.here {a = a} (named wanted a s) (cc)
+      go false s e ih = FirstLowered.later (not_named wanted a s) (ih e)
+
+  from-lowered : (attributes : List Attribute) (value : List ℕ) → FirstLowered wanted value attributes → lookup wanted attributes ≡ some value
+  unfolding lookup
+  from-lowered [] value f = elim f [ ]
+  from-lowered (a ∷ more) value f = go (sameBytes true false a.name wanted) refl f (from-lowered more value)
+    where
+      go : (b : Bool) → sameBytes true false a.name wanted ≡ b → FirstLowered wanted value (a ∷ more) → (FirstLowered wanted value more → lookup wanted more ≡ some value) → cond b (some a.value) (lookup wanted more) ≡ some value
+      go true s (FirstLowered.here n v) ih = ap some v
+      go true s (FirstLowered.later n f) ih = absurd (n (named wanted a s))
+      go false s (FirstLowered.here n v) ih = absurd (not_named wanted a s n)
+      go false s (FirstLowered.later n f) ih = ih f
+
+  -- The same of a wanted name as it stands, lower-cased or not.
+  pub lookup-lowered : (attributes : List Attribute) (value : List ℕ) → (lookup wanted attributes ≡ some value) ↔ FirstLowered wanted value attributes
+  lookup-lowered attributes value = (to-lowered attributes value, from-lowered attributes value)
 
 -- ---- E11
 

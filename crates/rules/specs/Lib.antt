@@ -1,4 +1,5 @@
 pub mod Attributes
 pub mod Standard
 pub mod Departures
+pub mod Lowered
 pub mod AttributeLaws

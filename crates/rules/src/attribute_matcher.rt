@@ -9,7 +9,7 @@ use letters::same;
 use operators::{Operator, compare};
 
 // Where the value of an attribute stands in the input.
-#[derive(Drop)]
+#[derive(Clone, Copy)]
 pub enum Found {
     At(usize, usize),
     Nothing,
