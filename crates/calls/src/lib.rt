@@ -12,7 +12,7 @@ use replies::{answer_attributes, answer_start};
 use reply_lines::put_popped;
 
 // Where the next call stands and where the next line goes, where the machine's sheet lies in the input, and its instruction store's size.
-#[derive(Drop)]
+#[derive(Clone, Copy)]
 pub struct State {
     pub at: usize,
     pub wrote: usize,

@@ -8,7 +8,7 @@ ghost use Rattle.replies.specs.Replies.{answered, startTurn, attributesTurn, end
 use reply_lines::{put_popped, put_reply};
 
 // Where the line ends, or that the record is faulty.
-#[derive(Drop)]
+#[derive(Clone, Copy)]
 pub enum Said {
     Line(usize),
     Faulty,

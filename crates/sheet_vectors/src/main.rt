@@ -14,7 +14,7 @@ use std::process::ExitCode;
 use std::rt::Files;
 use streams::{read_between, read_full};
 
-#[derive(Drop)]
+#[derive(Clone, Copy)]
 pub enum Verdict {
     Agrees,
     Differs,

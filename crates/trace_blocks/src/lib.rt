@@ -16,7 +16,7 @@ use trace::feed;
 
 // The bytes of the input buffer that are still to be read, where they stand in the trace, whether the input has ended, whether
 // more is wanted, and whether all is said.
-#[derive(Drop)]
+#[derive(Clone, Copy)]
 pub struct Progress {
     pub at: usize,
     pub end: usize,
