@@ -2,9 +2,9 @@
 #![tactic(auto)]
 
 ghost use Rattle.std.specs.Prelude.{◌≡◌, ◌≤◌, length};
-ghost use Rattle.stack.specs.Stores.{stores, opens, parentsTop, ancestorsTop};
-ghost use Rattle.weighing.specs.Weighing.{pushRefusal};
-ghost use Rattle.weighing.specs.Words.{noIds};
+ghost use Rattle.stack.specs.Stores.{stores, opens, parents_top, ancestors_top};
+ghost use Rattle.weighing.specs.Weighing.{push_refusal};
+ghost use Rattle.weighing.specs.Words.{no_ids};
 ghost use Rattle.accepting.specs.Accepting.{outcome, reply, accepted};
 
 use cells::numbers::u16_at;
@@ -29,7 +29,7 @@ pub struct Reply {
 }
 
 pub fn refused(number: u32) -> Reply
-    ensures { result ≡ reply (Answer.Refused number) noIds }
+    ensures { result ≡ reply (Answer.Refused number) no_ids }
 {
     Reply {
         answer: Answer::Refused(number),
@@ -49,8 +49,8 @@ pub fn accept(
     content: bool,
     found: &[u16],
 ) -> Reply
-    requires rows_bound { (opens rows.old ≤ 256) × (parentsTop rows.old ≤ 4096) × (ancestorsTop rows.old ≤ 1024) × (length name.now ≤ 63) × (length found.now ≤ 1024) }
-    requires found_value { pushRefusal sheet.now program.now rows.old content found.now ≡ 0 }
+    requires rows_bound { (opens rows.old ≤ 256) × (parents_top rows.old ≤ 4096) × (ancestors_top rows.old ≤ 1024) × (length name.now ≤ 63) × (length found.now ≤ 1024) }
+    requires found_value { push_refusal sheet.now program.now rows.old content found.now ≡ 0 }
     ensures { outcome result (stores rows.new names.new ids.new nodes.new) ≡ accepted sheet.now program.now (stores rows.old names.old ids.old nodes.old) name.now content found.now }
 {
     let mut words = [0, 0];

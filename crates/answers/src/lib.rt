@@ -3,7 +3,7 @@
 
 ghost use Rattle.std.specs.Prelude.{◌≡◌, ◌+◌, ◌≤◌, length};
 ghost use Rattle.stack.specs.Stores.{stores};
-ghost use Rattle.answers.specs.Answers.{turnBy, outlineRoom, turn_of};
+ghost use Rattle.answers.specs.Answers.{turn_by, outline_room, turn_of};
 ghost use Rattle.attribute_records.specs.AttributeRecords.{Fits};
 ghost use Rattle.replies.specs.Replies.{Within, answered, saying};
 
@@ -27,7 +27,7 @@ fn answer_record(
     at: usize,
 ) -> Said
     requires { (at ≤ 4294967296) × Fits read × (1020 ≤ length outlines.now) }
-    ensures nodes_after { answered result out.new (stores rows.new names.new ids.new nodes.new) ≡ saying (turnBy sheet.now program.now (stores rows.old names.old ids.old nodes.old) body.now read outlines.now) out.old at }
+    ensures nodes_after { answered result out.new (stores rows.new names.new ids.new nodes.new) ≡ saying (turn_by sheet.now program.now (stores rows.old names.old ids.old nodes.old) body.now read outlines.now) out.old at }
     ensures within { Within (at + 4096) result }
 {
     match read {
@@ -52,7 +52,7 @@ fn answer_record(
 }
 
 fn outline_room() -> [u32; 1020]
-    ensures { result ≡ outlineRoom }
+    ensures { result ≡ outline_room }
 {
     [0; 1020]
 }

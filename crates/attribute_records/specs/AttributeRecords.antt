@@ -6,15 +6,15 @@ use Rattle.attribute_records.specs.declared.Record.{Record}
 use Rattle.attribute_records.specs.declared.Step.{Step}
 
 -- An attribute: u8 name length, name, u16 value length, value.
-abbrev pub nameEnd : (body : List ℕ) → (at : ℕ) → ℕ
-nameEnd body at = at + 1 + get_or body at 0
+abbrev pub name_end : (body : List ℕ) → (at : ℕ) → ℕ
+name_end body at = at + 1 + get_or body at 0
 
-abbrev pub valueEnd : (body : List ℕ) → (at : ℕ) → ℕ
-valueEnd body at = nameEnd body at + 2 + be16 body (nameEnd body at)
+abbrev pub value_end : (body : List ℕ) → (at : ℕ) → ℕ
+value_end body at = name_end body at + 2 + be16 body (name_end body at)
 
 -- Its outline: name start, name end, value start, value end.
-abbrev pub outlineAt : (body : List ℕ) → (at : ℕ) → List ℕ
-outlineAt body at = (at + 1) ∷ (nameEnd body at ∷ ((nameEnd body at + 2) ∷ (valueEnd body at ∷ [])))
+abbrev pub outline_at : (body : List ℕ) → (at : ℕ) → List ℕ
+outline_at body at = (at + 1) ∷ (name_end body at ∷ ((name_end body at + 2) ∷ (value_end body at ∷ [])))
 
 -- An answer, and the outlines after it.
 pub record Stepped : Type 0 where
@@ -32,10 +32,10 @@ abbrev pub read : Record → List ℕ → Read
 read r o = record { said = r; outlines = o }
 
 -- The attribute at a place, if it lies in the body.
-unfoldable pub readAttribute : (body : List ℕ) → (slot at : ℕ) → (outlines : List ℕ) → Stepped
-readAttribute body slot at o =
-    cond (ltb (length body) (valueEnd body at)) (stepped Step.Faulty o)
-    (stepped (Step.Next (valueEnd body at)) (written o slot (outlineAt body at)))
+unfoldable pub read_attribute : (body : List ℕ) → (slot at : ℕ) → (outlines : List ℕ) → Stepped
+read_attribute body slot at o =
+    cond (ltb (length body) (value_end body at)) (stepped Step.Faulty o)
+    (stepped (Step.Next (value_end body at)) (written o slot (outline_at body at)))
 
 -- A fault ends the reading; else it goes on where the step leads.
 unfoldable pub onward : Stepped → (ℕ → List ℕ → Read) → Read
@@ -46,17 +46,17 @@ onward r go = by r.step
     by Step.Faulty = read Record.Faulty r.outlines
 
 -- So many attributes from a place on, which end where the body does.
-unfoldable pub readAttributes : (body : List ℕ) → (closing : Bool) → (n slot at : ℕ) → (outlines : List ℕ) → Read
-readAttributes body closing zero slot at o = read (cond (eqb at (length body)) (Record.Attributes closing slot) Record.Faulty) o
-readAttributes body closing (suc n) slot at o = onward (readAttribute body slot at o) (λ next o'. readAttributes body closing n (slot + 4) next o')
+unfoldable pub read_attributes : (body : List ℕ) → (closing : Bool) → (n slot at : ℕ) → (outlines : List ℕ) → Read
+read_attributes body closing zero slot at o = read (cond (eqb at (length body)) (Record.Attributes closing slot) Record.Faulty) o
+read_attributes body closing (suc n) slot at o = onward (read_attribute body slot at o) (λ next o'. read_attributes body closing n (slot + 4) next o')
 
 -- Kind 2, attributes: self-closing 0 or 1, u8 count, so many attributes. A body is at most 65,535 bytes.
-unfoldable pub attributesOf : (body outlines : List ℕ) → Read
-attributesOf body o =
+unfoldable pub attributes_of : (body outlines : List ℕ) → Read
+attributes_of body o =
     cond (ltb 65535 (length body)) (read Record.Faulty o)
     (cond (ltb (length body) 3) (read Record.Faulty o)
     (cond (ltb 1 (get_or body 1 0)) (read Record.Faulty o)
-    (readAttributes body (eqb (get_or body 1 0) 1) (get_or body 2 0) 0 3 o)))
+    (read_attributes body (eqb (get_or body 1 0) 1) (get_or body 2 0) 0 3 o)))
 
 -- A record has at most 255 outlines, of four numbers each.
 abbrev pub Fits : Record → Type 0

@@ -2,7 +2,7 @@
 #![tactic(auto)]
 
 ghost use Rattle.std.specs.Prelude.{◌≡◌, ◌≤◌, length};
-ghost use Rattle.attribute_records.specs.AttributeRecords.{read, readAttribute, attributesOf, stepped, Fits};
+ghost use Rattle.attribute_records.specs.AttributeRecords.{read, read_attribute, attributes_of, stepped, Fits};
 
 use cells::numbers::u16_at;
 use cells::{at8, put32};
@@ -27,7 +27,7 @@ pub enum Step {
 // The attribute at a place: its outline goes to the outlines from `slot` on.
 fn read_attribute(body: &[u8], outlines: &mut [u32], slot: usize, at: usize) -> Step
     requires { (length body.now ≤ 65535) × (slot ≤ 65536) }
-    ensures { stepped result outlines.new ≡ readAttribute body.now slot at outlines.old }
+    ensures { stepped result outlines.new ≡ read_attribute body.now slot at outlines.old }
 {
     if body.len() <= at {
         return Step::Faulty;
@@ -47,7 +47,7 @@ fn read_attribute(body: &[u8], outlines: &mut [u32], slot: usize, at: usize) -> 
 }
 
 pub fn attributes_of(body: &[u8], outlines: &mut [u32]) -> Record
-    ensures outlines_after { read result outlines.new ≡ attributesOf body.now outlines.old }
+    ensures outlines_after { read result outlines.new ≡ attributes_of body.now outlines.old }
     ensures fits { Fits result }
 {
     if 65535 < body.len() {

@@ -2,7 +2,7 @@
 #![tactic(auto)]
 
 ghost use Rattle.std.specs.Prelude.{◌≡◌, ◌+◌, ◌≤◌, length};
-ghost use Rattle.block_ends.specs.BlockEnds.{badFed, badOut, cutFed, cutOut, beginOf, Inside};
+ghost use Rattle.block_ends.specs.BlockEnds.{bad_fed, bad_out, cut_fed, cut_out, begin_of, Inside};
 
 use lines::put_bad_trace;
 
@@ -32,7 +32,7 @@ pub enum Begin {
 // `bad trace` and the place of the record that starts at `at` of the block.
 pub fn bad_trace(out: &mut [u8], at: usize, wrote: usize, place: u64) -> Fed
     requires { (wrote ≤ 4294967296) × (at ≤ 4294967296) × (place ≤ 9223372036854775808) }
-    ensures value { (result ≡ badFed place at wrote) × (out.new ≡ badOut place at wrote out.old) }
+    ensures value { (result ≡ bad_fed place at wrote) × (out.new ≡ bad_out place at wrote out.old) }
     ensures used_value { (result.used ≡ at) × (result.wrote ≤ wrote + 34) }
 {
     Fed {
@@ -45,7 +45,7 @@ pub fn bad_trace(out: &mut [u8], at: usize, wrote: usize, place: u64) -> Fed
 // A record that is cut, or no version: faulty where no bytes come after it.
 pub fn cut_short(out: &mut [u8], at: usize, wrote: usize, place: u64, last: bool) -> Fed
     requires { (wrote ≤ 4294967296) × (at ≤ 4294967296) × (place ≤ 9223372036854775808) }
-    ensures value { (result ≡ cutFed last place at wrote) × (out.new ≡ cutOut last place at wrote out.old) }
+    ensures value { (result ≡ cut_fed last place at wrote) × (out.new ≡ cut_out last place at wrote out.old) }
     ensures used_value { (result.used ≡ at) × (result.wrote ≤ wrote + 34) }
 {
     if last {
@@ -60,7 +60,7 @@ pub fn cut_short(out: &mut [u8], at: usize, wrote: usize, place: u64, last: bool
 
 // The version stands at the trace's first byte.
 pub fn first_record(block: &[u8], last: bool, place: u64) -> Begin
-    ensures value { result ≡ beginOf block.now last place }
+    ensures value { result ≡ begin_of block.now last place }
     ensures inside { Inside (length block.now) result }
 {
     if 0 < place {

@@ -3,8 +3,8 @@ use Rattle.std.specs.Prelude.{◌≡◌, true, cond, List, [], ◌∷◌, ℕ, z
 use Rattle.cursors.specs.declared.Cursor.{Cursor}
 use Rattle.cursors.specs.declared.Ranges.{Ranges}
 use Rattle.candidates.specs.declared.Candidate.{Candidate}
-use Rattle.cursors.specs.Cursors.{afterCursor, leftIn, rest}
-use Rattle.instructions.specs.Instructions.{keyFits}
+use Rattle.cursors.specs.Cursors.{after_cursor, left_in, rest}
+use Rattle.instructions.specs.Instructions.{key_fits}
 
 -- How many jumps are left at a cursor.
 unfoldable pub jumps : Ranges → Cursor → ℕ
@@ -14,22 +14,22 @@ jumps ranges c =
     (ranges.ancestors_top - c.slot)
 
 -- The first of n neighbouring instructions whose key fits, or the one after them.
-unfoldable pub firstKeyed : List ℕ → ℕ → ℕ → ℕ → ℕ
-firstKeyed program key a zero = a
-firstKeyed program key a (suc n) = cond (keyFits program key a) a (firstKeyed program key (a + 1) n)
+unfoldable pub first_keyed : List ℕ → ℕ → ℕ → ℕ → ℕ
+first_keyed program key a zero = a
+first_keyed program key a (suc n) = cond (key_fits program key a) a (first_keyed program key (a + 1) n)
 
 -- How many instructions of a range a budget allows.
 unfoldable pub affordable : (limit at stop budget : ℕ) → ℕ
-affordable limit at stop budget = cond (ltb budget (leftIn limit at stop)) budget (leftIn limit at stop)
+affordable limit at stop budget = cond (ltb budget (left_in limit at stop)) budget (left_in limit at stop)
 
 -- The cursors from the first one on whose instruction's key fits.
-unfoldable pub fromKeyed : List ℕ → ℕ → List Cursor → List Cursor
-fromKeyed program key [] = []
-fromKeyed program key (c ∷ cs) = cond (keyFits program key c.at) (c ∷ cs) (fromKeyed program key cs)
+unfoldable pub from_keyed : List ℕ → ℕ → List Cursor → List Cursor
+from_keyed program key [] = []
+from_keyed program key (c ∷ cs) = cond (key_fits program key c.at) (c ∷ cs) (from_keyed program key cs)
 
 -- A candidate stands on the first instruction whose key fits, and what comes after it is left; or there is none.
 unfoldable pub Reached : (program nodes : List ℕ) → Ranges → (key : ℕ) → Cursor → (budget : ℕ) → Candidate → Type 0
-Reached program nodes ranges key from budget Candidate.Over = fromKeyed program key (take budget (rest program nodes ranges from)) ≡ []
+Reached program nodes ranges key from budget Candidate.Over = from_keyed program key (take budget (rest program nodes ranges from)) ≡ []
 Reached program nodes ranges key from budget (Candidate.At d left) =
-    (fromKeyed program key (take budget (rest program nodes ranges from)) ≡ d ∷ take left (rest program nodes ranges (afterCursor d)))
-    × ((keyFits program key d.at ≡ true) × ((d.at < 2 ^ 16) × (left < budget)))
+    (from_keyed program key (take budget (rest program nodes ranges from)) ≡ d ∷ take left (rest program nodes ranges (after_cursor d)))
+    × ((key_fits program key d.at ≡ true) × ((d.at < 2 ^ 16) × (left < budget)))

@@ -2,7 +2,7 @@
 #![tactic(auto)]
 
 ghost use Rattle.std.specs.Prelude.{◌≡◌, ◌+◌, ◌≤◌, ◌^◌, max};
-ghost use Rattle.candidates.specs.Candidates.{Reached, affordable, firstKeyed};
+ghost use Rattle.candidates.specs.Candidates.{Reached, affordable, first_keyed};
 
 use cells::get32;
 use cursors::{Cursor, Jump, Ranges};
@@ -33,7 +33,7 @@ fn stretch(at: usize, stop: usize, limit: u16, budget: usize) -> usize
 // The first of so many instructions that has no name key or this one; the one after them if there is none. One word a row is read.
 fn first_keyed(program: &[u32], key: u32, from: usize, count: usize) -> usize
     requires { from + count ≤ max from (2 ^ 16) }
-    ensures { (result ≡ firstKeyed program.now key from count) × ((from ≤ result) × (result ≤ from + count)) }
+    ensures { (result ≡ first_keyed program.now key from count) × ((from ≤ result) × (result ≤ from + count)) }
 {
     let end = from + count;
     let mut a = from;

@@ -16,5 +16,5 @@ unfoldable pub be32 : List ℕ → ℕ → ℕ
 be32 s at = be16 s at * 65536 + be16 s (at + 2)
 
 -- The same four bytes in two's complement.
-unfoldable pub i32At : List ℕ → ℕ → ℤ
-i32At s at = to_z w32 (be32 s at)
+unfoldable pub i32_at : List ℕ → ℕ → ℤ
+i32_at s at = to_z w32 (be32 s at)

@@ -3,9 +3,9 @@ use Rattle.std.specs.Prelude.{◌≡◌, refl, List, [], ◌∷◌, ◌++◌, �
 use Rattle.std.proofs.Common.{◌∙◌, ap, arith, length-set, get_or-set_other, get_or-set_same}
 
 -- So many cells of a store from a place on; past the end a cell is 0.
-unfoldable pub cellsFrom : List ℕ → ℕ → ℕ → List ℕ
-cellsFrom xs a zero = []
-cellsFrom xs a (suc n) = get_or xs a 0 ∷ cellsFrom xs (a + 1) n
+unfoldable pub cells_from : List ℕ → ℕ → ℕ → List ℕ
+cells_from xs a zero = []
+cells_from xs a (suc n) = get_or xs a 0 ∷ cells_from xs (a + 1) n
 
 -- A store with a list written into it from a place on; what falls past the end is lost.
 unfoldable pub written : List ℕ → ℕ → List ℕ → List ℕ
@@ -17,8 +17,8 @@ unfolding written
 length-written xs a [] = refl
 length-written xs a (v ∷ vs) = length-written (set xs a v) (a + 1) vs ∙ length-set xs a v
 
-pub length-cells : (xs : List ℕ) (a n : ℕ) → length (cellsFrom xs a n) ≡ n
-unfolding cellsFrom
+pub length-cells : (xs : List ℕ) (a n : ℕ) → length (cells_from xs a n) ≡ n
+unfolding cells_from
 length-cells xs a zero = refl
 length-cells xs a (suc n) = ap suc (length-cells xs (a + 1) n)
 
@@ -45,25 +45,25 @@ get_in xs a (v ∷ vs) (suc j) h f =
     rw e (get_in (set xs a v) (a + 1) vs j (omega arith) (rw length-set (omega arith)))
 
 -- the same for stretches: they are equal where their cells are
-pub cells_same : (xs ys : List ℕ) (a n : ℕ) → ((i : ℕ) → a ≤ i → i < a + n → get_or ys i 0 ≡ get_or xs i 0) → cellsFrom ys a n ≡ cellsFrom xs a n
-unfolding cellsFrom
+pub cells_same : (xs ys : List ℕ) (a n : ℕ) → ((i : ℕ) → a ≤ i → i < a + n → get_or ys i 0 ≡ get_or xs i 0) → cells_from ys a n ≡ cells_from xs a n
+unfolding cells_from
 cells_same xs ys a zero h = refl
 cells_same xs ys a (suc n) h = rw (h a (omega arith) (omega arith), cells_same xs ys (a + 1) n (λ i p q. h i (omega arith) (omega arith)))
 
-pub cells-below : (xs : List ℕ) (a : ℕ) (vs : List ℕ) (b n : ℕ) → b + n ≤ a → cellsFrom (written xs a vs) b n ≡ cellsFrom xs b n
+pub cells-below : (xs : List ℕ) (a : ℕ) (vs : List ℕ) (b n : ℕ) → b + n ≤ a → cells_from (written xs a vs) b n ≡ cells_from xs b n
 cells-below xs a vs b n h = cells_same xs (written xs a vs) b n (λ i p q. get-below xs a vs i (omega arith))
 
-pub cells-above : (xs : List ℕ) (a : ℕ) (vs : List ℕ) (b n : ℕ) → a + length vs ≤ b → cellsFrom (written xs a vs) b n ≡ cellsFrom xs b n
+pub cells-above : (xs : List ℕ) (a : ℕ) (vs : List ℕ) (b n : ℕ) → a + length vs ≤ b → cells_from (written xs a vs) b n ≡ cells_from xs b n
 cells-above xs a vs b n h = cells_same xs (written xs a vs) b n (λ i p q. get-above xs a vs i (omega arith))
 
-pub cells_in : (xs : List ℕ) (a : ℕ) (vs : List ℕ) → a + length vs ≤ length xs → cellsFrom (written xs a vs) a (length vs) ≡ vs
-unfolding cellsFrom written
+pub cells_in : (xs : List ℕ) (a : ℕ) (vs : List ℕ) → a + length vs ≤ length xs → cells_from (written xs a vs) a (length vs) ≡ vs
+unfolding cells_from written
 cells_in xs a [] h = refl
 cells_in xs a (v ∷ vs) h =
     rw (get-below (set xs a v) (a + 1) vs a (omega arith), get_or-set_same xs a v 0 (omega arith), cells_in (set xs a v) (a + 1) vs (rw length-set (omega arith)))
 
-pub cells-cat : (xs : List ℕ) (a n m : ℕ) → cellsFrom xs a (n + m) ≡ cellsFrom xs a n ++ cellsFrom xs (a + n) m
-unfolding cellsFrom
+pub cells-cat : (xs : List ℕ) (a n m : ℕ) → cells_from xs a (n + m) ≡ cells_from xs a n ++ cells_from xs (a + n) m
+unfolding cells_from
 cells-cat xs a zero m = let e : a + 0 ≡ a = omega arith in let f : 0 + m ≡ m = omega arith in rw (e, f)
 cells-cat xs a (suc n) m =
     let e : suc n + m ≡ suc (n + m) = omega arith in

@@ -1,6 +1,6 @@
 //! Big-endian numbers in bytes (01, section 1). A byte past the end reads as 0.
 ghost use Rattle.std.specs.Prelude.{◌≡◌, ◌<◌, ◌^◌};
-ghost use Rattle.cells.specs.Numbers.{be16, be32, i32At};
+ghost use Rattle.cells.specs.Numbers.{be16, be32, i32_at};
 
 use crate::at8;
 
@@ -24,7 +24,7 @@ pub fn u32_at(s: &[u8], at: usize) -> usize
 
 // Two's complement: the upper half of the numbers counts down from -1.
 pub fn i32_at(s: &[u8], at: usize) -> i32
-    ensures { result ≡ i32At s.now at }
+    ensures { result ≡ i32_at s.now at }
 {
     let x = u32_at(s, at);
     if x < 2147483648 {

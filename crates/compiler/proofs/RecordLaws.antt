@@ -7,11 +7,11 @@ use native.Mathlib.Numerals.{sub-one}
 use native.Mathlib.Omega.{arith}
 use lib.ListN.{get_or}
 use Rattle.cells.specs.Numbers.{be16}
-use Rattle.node_tests.specs.Tests.{readTagTest}
-use Rattle.node_records.specs.Records.{recordAt, end_of, testsFrom}
+use Rattle.node_tests.specs.Tests.{read_tag_test}
+use Rattle.node_records.specs.Records.{record_at, end_of, tests_from}
 use Rattle.sheet.specs.Spelling.{TestsInside, Inside}
-use Rattle.program.specs.Program.{anyOfType}
-use Rattle.compiler.specs.Placing.{RecordsInside, recordsUse}
+use Rattle.program.specs.Program.{any_of_type}
+use Rattle.compiler.specs.Placing.{RecordsInside, records_use}
 
 module _ (s : List ℕ) where
   pub records-first : (n at : ℕ) → 0 < n → RecordsInside s n at → Inside s at × RecordsInside s (n - 1) (end_of s at)
@@ -19,23 +19,23 @@ module _ (s : List ℕ) where
   records-first zero at h t = absurd (omega arith)
   records-first (suc n) at h t = rw sub-one t
 
-  pub records-none : (n at : ℕ) → n ≤ 0 → recordsUse s n at ≡ false
-  unfolding recordsUse
+  pub records-none : (n at : ℕ) → n ≤ 0 → records_use s n at ≡ false
+  unfolding records_use
   records-none zero at h = refl
   records-none (suc n) at h = absurd (omega arith)
 
-  module _ (at : ℕ) {k tags : ℕ} (ek : k ≡ get_or s (at + 2) 0) (et : tags ≡ get_or s (at + 3 + k) 0) {found : Bool} (e : found ≡ anyOfType (map readTagTest (testsFrom s tags (at + 3 + k + 6)))) where
-    found-is : found ≡ anyOfType (recordAt s at).tagTests
-    unfolding recordAt
+  module _ (at : ℕ) {k tags : ℕ} (ek : k ≡ get_or s (at + 2) 0) (et : tags ≡ get_or s (at + 3 + k) 0) {found : Bool} (e : found ≡ any_of_type (map read_tag_test (tests_from s tags (at + 3 + k + 6)))) where
+    found-is : found ≡ any_of_type (record_at s at).tag_tests
+    unfolding record_at
     found-is = rw (e, et, ek) refl
 
-    pub records-found : (n : ℕ) → 0 < n → found ≡ true → recordsUse s n at ≡ true
-    unfolding recordsUse
+    pub records-found : (n : ℕ) → 0 < n → found ≡ true → records_use s n at ≡ true
+    unfolding records_use
     records-found zero h z = absurd (omega arith)
     records-found (suc n) h z = rw (← found-is, z) refl
 
-    pub records-more : (n : ℕ) → 0 < n → found ≡ false → recordsUse s n at ≡ recordsUse s (n - 1) (end_of s at)
-    unfolding recordsUse
+    pub records-more : (n : ℕ) → 0 < n → found ≡ false → records_use s n at ≡ records_use s (n - 1) (end_of s at)
+    unfolding records_use
     records-more zero h z = absurd (omega arith)
     records-more (suc n) h z = rw (sub-one, ← found-is, z) refl
 

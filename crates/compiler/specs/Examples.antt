@@ -3,14 +3,14 @@ use Rattle.std.specs.Prelude.{false, List, [], ◌∷◌, ◌≡◌, refl, ℕ, 
 use Rattle.cells.specs.Numbers.{be16, be32}
 use Rattle.meaning.specs.Trees.{size}
 use Rattle.meaning.specs.Layout.{below}
-use Rattle.names.specs.Names.{hashOf, nameKey}
-use Rattle.node_tests.specs.Tests.{tagKind, readTagTest}
-use Rattle.node_records.specs.Records.{testsFrom, testsEnd, recordAt}
-use Rattle.sheet.specs.Meaning.{ofType}
-use Rattle.node_records.specs.Checks.{thenStep, kindOk, nameLengthOk, comparisonOk, bodyOk, checkTest, checkTests, rising, checkCounts, checkIds, checkRecord}
-use Rattle.sheet.specs.Parser.{and_then, afterStep, parseTree, parseMany, treeAt, parseTrees, parseEnd, parseSheet}
-use Rattle.program.specs.Program.{tagKey, testKey, nodeKey, words, row, rows, anyOfType, usesNthOfType}
-use Rattle.compiler.specs.Compiler.{compiledOf, store_of}
+use Rattle.names.specs.Names.{hash_of, name_key}
+use Rattle.node_tests.specs.Tests.{tag_kind, read_tag_test}
+use Rattle.node_records.specs.Records.{tests_from, tests_end, record_at}
+use Rattle.sheet.specs.Meaning.{of_type}
+use Rattle.node_records.specs.Checks.{then_step, kind_ok, name_length_ok, comparison_ok, body_ok, check_test, check_tests, rising, check_counts, check_ids, check_record}
+use Rattle.sheet.specs.Parser.{and_then, after_step, parse_tree, parse_many, tree_at, parse_trees, parse_end, parse_sheet}
+use Rattle.program.specs.Program.{tag_key, test_key, node_key, words, row, rows, any_of_type, uses_nth_of_type}
+use Rattle.compiler.specs.Compiler.{compiled_of, store_of}
 use Rattle.compiler.specs.declared.Compiled.{Compiled}
 
 -- Five records in the order of the sheet, A, C, F, G, B, each with one test, for the local name in small letters.
@@ -29,16 +29,16 @@ abbrev pub lent : List ℕ
 lent = replicate 48 7
 
 -- A 0, B 1, C 2, F 3, G 4: each row's first word is its record's place. The sixth place is untouched.
-pub p10-rows : store_of (parseSheet p10) lent ≡
+pub p10-rows : store_of (parse_sheet p10) lent ≡
     9 ∷ 18 ∷ 256 ∷ 2 ∷ 1 ∷ 4 ∷ 1 ∷ 98 ∷  -- A: child block at 2, descendant block at 4
     65 ∷ 74 ∷ 256 ∷ 5 ∷ 0 ∷ 5 ∷ 0 ∷ 99 ∷  -- B
     23 ∷ 32 ∷ 256 ∷ 3 ∷ 0 ∷ 3 ∷ 1 ∷ 100 ∷  -- C: descendant block at 3
     37 ∷ 46 ∷ 256 ∷ 4 ∷ 0 ∷ 4 ∷ 0 ∷ 103 ∷  -- F
     51 ∷ 60 ∷ 256 ∷ 5 ∷ 0 ∷ 5 ∷ 0 ∷ 104 ∷  -- G
     replicate 8 7
-unfolding p10 store_of size below hashOf nameKey tagKind readTagTest testsFrom testsEnd recordAt be16 be32 thenStep kindOk nameLengthOk comparisonOk bodyOk checkTest checkTests rising checkCounts checkIds checkRecord and_then afterStep parseTree parseMany treeAt parseTrees parseEnd parseSheet tagKey testKey nodeKey words row rows
+unfolding p10 store_of size below hash_of name_key tag_kind read_tag_test tests_from tests_end record_at be16 be32 then_step kind_ok name_length_ok comparison_ok body_ok check_test check_tests rising check_counts check_ids check_record and_then after_step parse_tree parse_many tree_at parse_trees parse_end parse_sheet tag_key test_key node_key words row rows
 p10-rows = refl
 
-pub p10-made : compiledOf (parseSheet p10) lent ≡ Compiled.Made false
-unfolding p10 compiledOf size tagKind readTagTest testsFrom testsEnd recordAt be16 be32 thenStep kindOk nameLengthOk comparisonOk bodyOk checkTest checkTests rising checkCounts checkIds checkRecord and_then afterStep parseTree parseMany treeAt parseTrees parseEnd parseSheet ofType anyOfType usesNthOfType
+pub p10-made : compiled_of (parse_sheet p10) lent ≡ Compiled.Made false
+unfolding p10 compiled_of size tag_kind read_tag_test tests_from tests_end record_at be16 be32 then_step kind_ok name_length_ok comparison_ok body_ok check_test check_tests rising check_counts check_ids check_record and_then after_step parse_tree parse_many tree_at parse_trees parse_end parse_sheet of_type any_of_type uses_nth_of_type
 p10-made = refl

@@ -2,9 +2,9 @@
 use Rattle.std.specs.Prelude.{Bool, false, ◌||◌, List, ℕ, zero, suc, ◌+◌, ◌*◌, ◌≤◌}
 use Rattle.std.proofs.lemmas.List.Edits.{sets}
 use Rattle.meaning.specs.Trees.{Forest, size}
-use Rattle.node_records.specs.Records.{NodeRecord, recordAt, end_of, childCount, descendantCount}
+use Rattle.node_records.specs.Records.{NodeRecord, record_at, end_of, child_count, descendant_count}
 use Rattle.sheet.specs.Spelling.{Inside, Spells}
-use Rattle.program.specs.Program.{row, anyOfType, instructionAt}
+use Rattle.program.specs.Program.{row, any_of_type, instruction_at}
 
 -- The store, where the next record is, and the first address that is free.
 pub record Laid : Type 0 where
@@ -13,24 +13,24 @@ pub record Laid : Type 0 where
   pub free : ℕ
 
 -- One node at a slot: its child block with all below it, its descendant block, then its own row.
-unfoldable pub layNode : (ℕ → ℕ → ℕ → ℕ → List ℕ → Laid) → List ℕ → (at slot free : ℕ) → List ℕ → Laid
-layNode below s at slot free store =
-    let c = below (childCount s at) (end_of s at) free (free + childCount s at) store in
-    let d = below (descendantCount s at) c.next c.free (c.free + descendantCount s at) c.store in
-    record { store = sets d.store (slot * 8) (row (instructionAt s at free c.free)); next = d.next; free = d.free }
+unfoldable pub lay_node : (ℕ → ℕ → ℕ → ℕ → List ℕ → Laid) → List ℕ → (at slot free : ℕ) → List ℕ → Laid
+lay_node below s at slot free store =
+    let c = below (child_count s at) (end_of s at) free (free + child_count s at) store in
+    let d = below (descendant_count s at) c.next c.free (c.free + descendant_count s at) c.store in
+    record { store = sets d.store (slot * 8) (row (instruction_at s at free c.free)); next = d.next; free = d.free }
 
 -- So many nodes side by side, from a slot on.
-unfoldable pub layMany : (ℕ → ℕ → ℕ → List ℕ → Laid) → (n at slot free : ℕ) → List ℕ → Laid
-layMany node zero at slot free store = record { store = store; next = at; free = free }
-layMany node (suc n) at slot free store =
-    let one = node at slot free store in layMany node n one.next (slot + 1) one.free one.store
+unfoldable pub lay_many : (ℕ → ℕ → ℕ → List ℕ → Laid) → (n at slot free : ℕ) → List ℕ → Laid
+lay_many node zero at slot free store = record { store = store; next = at; free = free }
+lay_many node (suc n) at slot free store =
+    let one = node at slot free store in lay_many node n one.next (slot + 1) one.free one.store
 
-unfoldable pub layAt : ℕ → List ℕ → (at slot free : ℕ) → List ℕ → Laid
-layAt zero s at slot free store = record { store = store; next = at; free = free }
-layAt (suc depth) s at slot free store = layNode (layMany (layAt depth s)) s at slot free store
+unfoldable pub lay_at : ℕ → List ℕ → (at slot free : ℕ) → List ℕ → Laid
+lay_at zero s at slot free store = record { store = store; next = at; free = free }
+lay_at (suc depth) s at slot free store = lay_node (lay_many (lay_at depth s)) s at slot free store
 
-unfoldable pub layTrees : ℕ → List ℕ → (n at slot free : ℕ) → List ℕ → Laid
-layTrees depth s = layMany (layAt depth s)
+unfoldable pub lay_trees : ℕ → List ℕ → (n at slot free : ℕ) → List ℕ → Laid
+lay_trees depth s = lay_many (lay_at depth s)
 
 -- Trees that a good sheet spells, their block reserved before what is free, room for all below them.
 pub record Room (s : List ℕ) (depth n at slot free : ℕ) : Type 0 where
@@ -46,6 +46,6 @@ RecordsInside s zero at = Unit
 RecordsInside s (suc n) at = Inside s at × RecordsInside s n (end_of s at)
 
 -- Some record of so many, one after the other, has a test of kind 5.
-unfoldable pub recordsUse : List ℕ → (n at : ℕ) → Bool
-recordsUse s zero at = false
-recordsUse s (suc n) at = anyOfType (recordAt s at).tagTests || recordsUse s n (end_of s at)
+unfoldable pub records_use : List ℕ → (n at : ℕ) → Bool
+records_use s zero at = false
+records_use s (suc n) at = any_of_type (record_at s at).tag_tests || records_use s n (end_of s at)

@@ -8,11 +8,11 @@ use mathlib.Core.List.{List, [], ◌∷◌, ◌++◌}
 use Rattle.std.proofs.Math.ListN.{get_or-append}
 use Rattle.std.proofs.lemmas.List.Edits.{sets, sets-eq}
 use Rattle.std.proofs.Math.Seq.{length-sets}
-use Rattle.meaning.specs.Document.{Link, child, descendant, by-link}
+use Rattle.meaning.specs.Document.{Link, child, descendant, by_link}
 use Rattle.meaning.specs.Trees.{Forest, end, tree, width, size}
 use Rattle.meaning.specs.Layout.{Instruction, begins, ends, block, below, layout, fetch}
 use Rattle.meaning.proofs.LayoutLaws.{length-layout}
-use Rattle.node_records.specs.Records.{NodeRecord, recordAt}
+use Rattle.node_records.specs.Records.{NodeRecord, record_at}
 use Rattle.sheet.specs.Spelling.{Inside, Spells}
 use Rattle.program.specs.Program.{words, row, rows}
 
@@ -119,16 +119,16 @@ module _ (P : NodeRecord → Type 0) where
 
 -- A node is what the sheet's bytes say at its place.
 pub record Recorded (s : List ℕ) (node : NodeRecord) : Type 0 where
-  pub is : node ≡ recordAt s node.place
+  pub is : node ≡ record_at s node.place
   pub inside : Inside s node.place
 
-recorded : (s : List ℕ) (at : ℕ) (node : NodeRecord) → node ≡ recordAt s at → Inside s at → Recorded s node
-unfolding recordAt
-recorded s at node e i = let p : node.place ≡ at = ap (λ (n : NodeRecord). n.place) e in record { is = e ∙ ap (recordAt s) (sym p); inside = rw p i }
+recorded : (s : List ℕ) (at : ℕ) (node : NodeRecord) → node ≡ record_at s at → Inside s at → Recorded s node
+unfolding record_at
+recorded s at node e i = let p : node.place ≡ at = ap (λ (n : NodeRecord). n.place) e in record { is = e ∙ ap (record_at s) (sym p); inside = rw p i }
 
 -- Every node of a good sheet is.
 pub spelt-recorded : {s : List ℕ} {depth n at m : ℕ} {f : Forest NodeRecord} → Spells s depth n at f m → Every (Recorded s) f
 unfolding Every
 spelt-recorded (Spells.none a b) = tt
 spelt-recorded {s} {at = at} (Spells.more {node = node} {below = k} p q hn hd en i tc td tn) =
-    (recorded s at node en i, (by-link (λ l. Every (Recorded s) (k l)) (spelt-recorded tc) (spelt-recorded td), spelt-recorded tn))
+    (recorded s at node en i, (by_link (λ l. Every (Recorded s) (k l)) (spelt-recorded tc) (spelt-recorded td), spelt-recorded tn))

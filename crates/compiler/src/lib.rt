@@ -1,12 +1,12 @@
 //! The compiler (compiler.rs): a block is reserved for siblings; then for each node in turn its child block is placed with all below it, then its descendant block.
-//! Comparison names are lower-cased when the Rust compiles them; here tests stay in the sheet, and `attributeHolds` of `node_tests` lower-cases a comparison's
+//! Comparison names are lower-cased when the Rust compiles them; here tests stay in the sheet, and `attribute_holds` of `node_tests` lower-cases a comparison's
 //! name and not a name of kind 18 (E4).
 #![tactic(auto)]
 
 ghost use Rattle.std.specs.Prelude.{◌≡◌, ◌≤◌, length};
-ghost use Rattle.sheet.specs.Parser.{parseSheet};
-ghost use Rattle.compiler.specs.Placing.{layAt, layTrees, Room, RecordsInside, recordsUse};
-ghost use Rattle.compiler.specs.Compiler.{compiledOf, store_of};
+ghost use Rattle.sheet.specs.Parser.{parse_sheet};
+ghost use Rattle.compiler.specs.Placing.{lay_at, lay_trees, Room, RecordsInside, records_use};
+ghost use Rattle.compiler.specs.Compiler.{compiled_of, store_of};
 
 use cells::at8;
 use cells::numbers::u16_at;
@@ -30,7 +30,7 @@ pub enum Compiled {
 // Is a test of kind 5 in one of `count` records, one after the other from `at` on?
 fn uses_nth_of_type(s: &[u8], count: usize, at: usize) -> bool
     requires { (length s.now ≤ 65536) × RecordsInside s.now count at }
-    ensures { result ≡ recordsUse s.now count at }
+    ensures { result ≡ records_use s.now count at }
 {
     let mut left = count;
     let mut here = at;
@@ -58,9 +58,9 @@ fn compile_node(
 ) -> Placed
     requires s_len_bound { length s.now ≤ 65536 }
     requires room { Room s.now depth 1 at slot free }
-    ensures next_value { result.next ≡ (layAt depth s.now at slot free store.old).next }
-    ensures free_value { result.free ≡ (layAt depth s.now at slot free store.old).free }
-    ensures store_after { store.new ≡ (layAt depth s.now at slot free store.old).store }
+    ensures next_value { result.next ≡ (lay_at depth s.now at slot free store.old).next }
+    ensures free_value { result.free ≡ (lay_at depth s.now at slot free store.old).free }
+    ensures store_after { store.new ≡ (lay_at depth s.now at slot free store.old).store }
 {
     let links = links_at(s, at);
     let children = links.children;
@@ -101,9 +101,9 @@ fn compile_nodes(
 ) -> Placed
     requires s_len_bound { length s.now ≤ 65536 }
     requires room { Room s.now depth count at slot free }
-    ensures next_value { result.next ≡ (layTrees depth s.now count at slot free store.old).next }
-    ensures free_value { result.free ≡ (layTrees depth s.now count at slot free store.old).free }
-    ensures store_after { store.new ≡ (layTrees depth s.now count at slot free store.old).store }
+    ensures next_value { result.next ≡ (lay_trees depth s.now count at slot free store.old).next }
+    ensures free_value { result.free ≡ (lay_trees depth s.now count at slot free store.old).free }
+    ensures store_after { store.new ≡ (lay_trees depth s.now count at slot free store.old).store }
 {
     let mut left = count;
     let mut here = at;
@@ -124,8 +124,8 @@ fn compile_nodes(
 
 /// Checks the sheet and compiles it into the store, whatever that held: refusals 1 to 13, then 15.
 pub fn compile(s: &[u8], store: &mut [u32]) -> Compiled
-    ensures value { result ≡ compiledOf (parseSheet s.now) store.old }
-    ensures store_after { store.new ≡ store_of (parseSheet s.now) store.old }
+    ensures value { result ≡ compiled_of (parse_sheet s.now) store.old }
+    ensures store_after { store.new ≡ store_of (parse_sheet s.now) store.old }
 {
     match check_sheet(s) {
         Checked::Refused(number, place) => Compiled::Refused(number, place),

@@ -8,61 +8,61 @@ use native.Mathlib.Numerals.{add-one}
 use borrow.Author.Tests.{eq-eqb, ne_eqb}
 use lib.ListN.{length, get_or, drop, drop_of_length-le}
 use lib.Seq.{drop-cons}
-use Rattle.cells.specs.Stretches.{cellsFrom, length-cells}
+use Rattle.cells.specs.Stretches.{cells_from, length-cells}
 use Rattle.letters.specs.BytesLaws.{equal-ne}
-use Rattle.stack.specs.Stores.{holdsName, findPair, pair_of, pairNameAt, pair_at, rowWord, opens, pairsTop}
+use Rattle.stack.specs.Stores.{holds_name, find_pair, pair_of, pair_name_at, pair_at, row_word, opens, pairs_top}
 
 -- ---- comparing a name
-pub name-long : (names : List ℕ) (at n : ℕ) (x : List ℕ) → (n ≡ length x → ⊥) → false ≡ holdsName names at n x
-unfolding holdsName
-name-long names at n x h = sym (equal-ne x (cellsFrom names at n) (λ e. h (sym (ap length e ∙ length-cells names at n))))
+pub name-long : (names : List ℕ) (at n : ℕ) (x : List ℕ) → (n ≡ length x → ⊥) → false ≡ holds_name names at n x
+unfolding holds_name
+name-long names at n x h = sym (equal-ne x (cells_from names at n) (λ e. h (sym (ap length e ∙ length-cells names at n))))
 
-pub name-start : (names : List ℕ) (at n : ℕ) (x : List ℕ) → n ≡ length x → holdsName names at n x ≡ holdsName names (at + 0) (length x - 0) (drop 0 x)
+pub name-start : (names : List ℕ) (at n : ℕ) (x : List ℕ) → n ≡ length x → holds_name names at n x ≡ holds_name names (at + 0) (length x - 0) (drop 0 x)
 name-start names at n x e =
     let f : at + 0 ≡ at = omega arith in
     let g : length x - 0 ≡ length x = omega arith in
     rw (f, g, e)
 
-module _ (names : List ℕ) (at n : ℕ) (x : List ℕ) (i : ℕ) (inv : holdsName names at n x ≡ holdsName names (at + i) (length x - i) (drop i x)) (h : i < length x) (b : ℕ)
+module _ (names : List ℕ) (at n : ℕ) (x : List ℕ) (i : ℕ) (inv : holds_name names at n x ≡ holds_name names (at + i) (length x - i) (drop i x)) (h : i < length x) (b : ℕ)
     (eb : b ≡ get_or names (at + i) 0) where
-  pub name-differs : (get_or x i 0 ≡ b → ⊥) → false ≡ holdsName names at n x
-  unfolding holdsName cellsFrom
+  pub name-differs : (get_or x i 0 ≡ b → ⊥) → false ≡ holds_name names at n x
+  unfolding holds_name cells_from
   name-differs d =
       let e : length x - i ≡ suc (length x - (i + 1)) = omega arith in
       sym (inv ∙ rw (e, drop-cons x i 0 h, ne_eqb (get_or x i 0) (get_or names (at + i) 0) (λ q. d (q ∙ sym eb))))
 
-  pub name-again : get_or x i 0 ≡ b → holdsName names at n x ≡ holdsName names (at + (i + 1)) (length x - (i + 1)) (drop (i + 1) x)
-  unfolding holdsName cellsFrom
+  pub name-again : get_or x i 0 ≡ b → holds_name names at n x ≡ holds_name names (at + (i + 1)) (length x - (i + 1)) (drop (i + 1) x)
+  unfolding holds_name cells_from
   name-again d =
       let e : length x - i ≡ suc (length x - (i + 1)) = omega arith in
       let f : at + (i + 1) ≡ at + i + 1 = omega arith in
       inv ∙ rw (e, drop-cons x i 0 h, eq-eqb (get_or x i 0) (get_or names (at + i) 0) (d ∙ eb), f, add-one i)
 
-pub name-over : (names : List ℕ) (at n : ℕ) (x : List ℕ) (i : ℕ) → holdsName names at n x ≡ holdsName names (at + i) (length x - i) (drop i x) → length x ≤ i → true ≡ holdsName names at n x
-unfolding holdsName cellsFrom
+pub name-over : (names : List ℕ) (at n : ℕ) (x : List ℕ) (i : ℕ) → holds_name names at n x ≡ holds_name names (at + i) (length x - i) (drop i x) → length x ≤ i → true ≡ holds_name names at n x
+unfolding holds_name cells_from
 name-over names at n x i inv h = let e : length x - i ≡ 0 = omega arith in sym (inv ∙ rw (e, drop_of_length-le x h))
 
 -- ---- looking for a pair
-pub pair-start : (rows names x : List ℕ) (k top i : ℕ) → k ≡ opens rows → top ≡ pairsTop rows → i ≡ rowWord rows k 4 → pair_of rows names x ≡ findPair rows names x i (top - i)
+pub pair-start : (rows names x : List ℕ) (k top i : ℕ) → k ≡ opens rows → top ≡ pairs_top rows → i ≡ row_word rows k 4 → pair_of rows names x ≡ find_pair rows names x i (top - i)
 unfolding pair_of
 pair-start rows names x k top i ek et ei = rw (ei, et, ek)
 
-module _ (rows names x : List ℕ) (p i top : ℕ) (inv : p ≡ findPair rows names x i (top - i)) (h : i < top) (n : ℕ) (b : Bool) (en : n ≡ get_or rows (pair_at i) 0)
-    (eb : b ≡ holdsName names (pairNameAt i) n x) where
+module _ (rows names x : List ℕ) (p i top : ℕ) (inv : p ≡ find_pair rows names x i (top - i)) (h : i < top) (n : ℕ) (b : Bool) (en : n ≡ get_or rows (pair_at i) 0)
+    (eb : b ≡ holds_name names (pair_name_at i) n x) where
   pub pair-here : b ≡ true → i ≡ p
-  unfolding findPair
+  unfolding find_pair
   pair-here t =
       let e : top - i ≡ suc (top - (i + 1)) = omega arith in
-      let q : holdsName names (pairNameAt i) (get_or rows (pair_at i) 0) x ≡ true = rw (← en) (sym eb ∙ t) in
+      let q : holds_name names (pair_name_at i) (get_or rows (pair_at i) 0) x ≡ true = rw (← en) (sym eb ∙ t) in
       sym (inv ∙ rw (e, q))
 
-  pub pair-later : b ≡ false → p ≡ findPair rows names x (i + 1) (top - (i + 1))
-  unfolding findPair
+  pub pair-later : b ≡ false → p ≡ find_pair rows names x (i + 1) (top - (i + 1))
+  unfolding find_pair
   pair-later t =
       let e : top - i ≡ suc (top - (i + 1)) = omega arith in
-      let q : holdsName names (pairNameAt i) (get_or rows (pair_at i) 0) x ≡ false = rw (← en) (sym eb ∙ t) in
+      let q : holds_name names (pair_name_at i) (get_or rows (pair_at i) 0) x ≡ false = rw (← en) (sym eb ∙ t) in
       inv ∙ rw (e, q)
 
-pub pair-none : (rows names x : List ℕ) (p i top : ℕ) → p ≡ findPair rows names x i (top - i) → top ≤ i → i ≡ p
-unfolding findPair
+pub pair-none : (rows names x : List ℕ) (p i top : ℕ) → p ≡ find_pair rows names x i (top - i) → top ≤ i → i ≡ p
+unfolding find_pair
 pair-none rows names x p i top inv h = let e : top - i ≡ 0 = omega arith in sym (inv ∙ rw e)

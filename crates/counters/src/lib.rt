@@ -2,7 +2,7 @@
 #![tactic(auto)]
 
 ghost use Rattle.std.specs.Prelude.{◌≡◌, ◌<◌, ◌≤◌, ◌^◌, length};
-ghost use Rattle.stack.specs.Stores.{nameLimit, holdsName, pair_of, known, timesOf, children, oneMore, nameCountedRows, nameCountedNames, countedRows, countedNames};
+ghost use Rattle.stack.specs.Stores.{name_limit, holds_name, pair_of, known, times_in, children, one_more, name_counted_rows, name_counted_names, counted_rows, counted_names};
 
 use cells::{at32, get8, get32, put32};
 use stack::copies::{copy8, copy32};
@@ -13,7 +13,7 @@ use stack::{
 // Whether so many bytes of a store are the name.
 pub fn holds_name(names: &[u8], at: usize, n: usize, name: &[u8]) -> bool
     requires { at < 2 ^ 48 }
-    ensures { result ≡ holdsName names.now at n name.now }
+    ensures { result ≡ holds_name names.now at n name.now }
 {
     if n != name.len() {
         return false;
@@ -57,7 +57,7 @@ pub fn is_known(rows: &[u32], names: &[u8], name: &[u8]) -> bool
 
 // How often it was.
 pub fn times(rows: &[u32], names: &[u8], name: &[u8]) -> u32
-    ensures { result ≡ timesOf rows.now names.now name.now }
+    ensures { result ≡ times_in rows.now names.now name.now }
 {
     let i = find_pair(rows, names, name);
     if at32(rows, PAIRS_TOP) <= i {
@@ -75,7 +75,7 @@ pub fn child_count(rows: &[u32]) -> u32
 
 // One more; a full cell stays as it is, so that no stored number can trap.
 pub fn inc(n: u32) -> u32
-    ensures { result ≡ oneMore n }
+    ensures { result ≡ one_more n }
 {
     if n < 4294967295 {
         return n + 1;
@@ -85,8 +85,8 @@ pub fn inc(n: u32) -> u32
 
 // The pair of the name counts once more, or there is a new pair at the top.
 fn count_name(rows: &mut [u32], names: &mut [u8], name: &[u8])
-    requires { length name.now ≤ nameLimit }
-    ensures { (rows.new ≡ nameCountedRows rows.old names.old name.now) × (names.new ≡ nameCountedNames rows.old names.old name.now) }
+    requires { length name.now ≤ name_limit }
+    ensures { (rows.new ≡ name_counted_rows rows.old names.old name.now) × (names.new ≡ name_counted_names rows.old names.old name.now) }
 {
     let top = at32(rows, PAIRS_TOP);
     let i = find_pair(rows, names, name);
@@ -103,8 +103,8 @@ fn count_name(rows: &mut [u32], names: &mut [u8], name: &[u8])
 
 // A tag counts as a child of the open level and, where types are counted, under its name.
 pub fn add_child(rows: &mut [u32], names: &mut [u8], name: &[u8], types: bool)
-    requires { length name.now ≤ nameLimit }
-    ensures { (rows.new ≡ countedRows types rows.old names.old name.now) × (names.new ≡ countedNames types rows.old names.old name.now) }
+    requires { length name.now ≤ name_limit }
+    ensures { (rows.new ≡ counted_rows types rows.old names.old name.now) × (names.new ≡ counted_names types rows.old names.old name.now) }
 {
     let at = ROWS + at32(rows, OPENS) * ROW + CHILDREN;
     let n = inc(get32(rows, at));

@@ -3,9 +3,9 @@
 
 ghost use Rattle.std.specs.Prelude.{◌≡◌, ◌≤◌, length, get_or};
 ghost use Rattle.cells.specs.Stretches.{written};
-ghost use Rattle.exec.specs.Scans.{answerFrom, foundIn};
-ghost use Rattle.sheet.specs.Parser.{nodeCount};
-ghost use Rattle.course.specs.Course.{kind_of, isHtml, hasContent, childPosition, typePosition, liveRanges, firstLive, heldCursor, begin, resumed};
+ghost use Rattle.exec.specs.Scans.{answer_from, found_in};
+ghost use Rattle.sheet.specs.Parser.{node_count};
+ghost use Rattle.course.specs.Course.{kind_of, is_html, has_content, child_position, type_position, live_ranges, first_live, held_cursor, begin, resumed};
 
 use cells::numbers::u16_at;
 use cells::{at32, get32};
@@ -24,13 +24,13 @@ pub fn kind_of(namespace: u32, void: bool) -> u32
 }
 
 pub fn is_html(kind: u32) -> bool
-    ensures { result ≡ isHtml kind }
+    ensures { result ≡ is_html kind }
 {
     kind % 4 == 0
 }
 
 pub fn has_content(kind: u32, self_closing: bool) -> bool
-    ensures { result ≡ hasContent kind self_closing }
+    ensures { result ≡ has_content kind self_closing }
 {
     if is_html(kind) {
         return kind / 4 % 2 != 1;
@@ -39,13 +39,13 @@ pub fn has_content(kind: u32, self_closing: bool) -> bool
 }
 
 fn child_position(rows: &[u32]) -> u32
-    ensures { result ≡ childPosition rows.now }
+    ensures { result ≡ child_position rows.now }
 {
     inc(child_count(rows))
 }
 
 fn type_position(rows: &[u32], names: &[u8], name: &[u8]) -> u32
-    ensures { result ≡ typePosition rows.now names.now name.now }
+    ensures { result ≡ type_position rows.now names.now name.now }
 {
     if counts_types(rows) {
         return inc(times(rows, names, name));
@@ -54,7 +54,7 @@ fn type_position(rows: &[u32], names: &[u8], name: &[u8]) -> u32
 }
 
 fn live_ranges(sheet: &[u8], rows: &[u32]) -> Ranges
-    ensures { result ≡ liveRanges sheet.now rows.now }
+    ensures { result ≡ live_ranges sheet.now rows.now }
 {
     Ranges {
         parents_top: at32(rows, 1),
@@ -65,13 +65,13 @@ fn live_ranges(sheet: &[u8], rows: &[u32]) -> Ranges
 }
 
 fn first_live(sheet: &[u8], rows: &[u32]) -> Cursor
-    ensures { result ≡ firstLive sheet.now rows.now }
+    ensures { result ≡ first_live sheet.now rows.now }
 {
     Cursor::first(at32(rows, 16 + at32(rows, 0) * 8 + 2), u16_at(sheet, 7))
 }
 
 fn held_cursor(rows: &[u32]) -> Cursor
-    ensures { result ≡ heldCursor rows.now }
+    ensures { result ≡ held_cursor rows.now }
 {
     Cursor {
         stage: get32(rows, 8),
@@ -92,7 +92,7 @@ pub fn begin_scan(
     kind: u32,
     found: &mut [u16],
 ) -> Scanned
-    ensures { (result ≡ answerFrom 0 (begin sheet.now program.now rows.now names.now nodes.now name.now kind)) × (found.new ≡ written found.old 0 (foundIn (begin sheet.now program.now rows.now names.now nodes.now name.now kind))) }
+    ensures { (result ≡ answer_from 0 (begin sheet.now program.now rows.now names.now nodes.now name.now kind)) × (found.new ≡ written found.old 0 (found_in (begin sheet.now program.now rows.now names.now nodes.now name.now kind))) }
 {
     let from = first_live(sheet, rows);
     if !is_html(kind) {
@@ -133,7 +133,7 @@ pub fn resume_scan(
     outlines: &[u32],
     found: &mut [u16],
 ) -> usize
-    requires { (get_or rows.now 7 0 ≤ nodeCount sheet.now) × (nodeCount sheet.now ≤ 1024) }
+    requires { (get_or rows.now 7 0 ≤ node_count sheet.now) × (node_count sheet.now ≤ 1024) }
     ensures { (result ≡ length (resumed sheet.now program.now rows.now names.now nodes.now name.now input.now outlines.now)) × (found.new ≡ written found.old 0 (resumed sheet.now program.now rows.now names.now nodes.now name.now input.now outlines.now)) }
 {
     let count = held_found(rows, nodes, found);

@@ -2,7 +2,7 @@
 #![tactic(auto)]
 
 ghost use Rattle.std.specs.Prelude.{◌≡◌, ◌<◌, ◌-◌, ◌^◌};
-ghost use Rattle.cursors.specs.Cursors.{firstCursor, afterCursor, rangeAt, jumpOf};
+ghost use Rattle.cursors.specs.Cursors.{first_cursor, after_cursor, range_at, jump_of};
 
 use cells::{at16, at32};
 
@@ -33,7 +33,7 @@ pub enum Jump {
 // The range of the node in a slot; `word` is where its row has it: 3 for children, 5 for descendants.
 fn range_at(program: &[u32], nodes: &[u16], word: usize, stage: u32, slot: usize) -> Cursor
     requires { (word < 8) × (slot < 2 ^ 64 - 1) }
-    ensures { result ≡ rangeAt program.now nodes.now word stage slot }
+    ensures { result ≡ range_at program.now nodes.now word stage slot }
 {
     let node = at16(nodes, slot);
     let first = at32(program, node * 8 + word);
@@ -49,7 +49,7 @@ fn range_at(program: &[u32], nodes: &[u16], word: usize, stage: u32, slot: usize
 impl Cursor {
     // At the first root; the first node with a child range is in `slot`.
     pub fn first(slot: usize, roots: usize) -> Cursor
-        ensures { result ≡ firstCursor slot roots }
+        ensures { result ≡ first_cursor slot roots }
     {
         Cursor {
             stage: 0,
@@ -61,7 +61,7 @@ impl Cursor {
 
     // Past the instruction that it stands on, if it stands on one.
     pub fn next(self) -> Cursor
-        ensures { result ≡ afterCursor self }
+        ensures { result ≡ after_cursor self }
     {
         let stage = self.stage;
         let slot = self.slot;
@@ -80,7 +80,7 @@ impl Cursor {
 
     // The range after the one that it stands in: child ranges first, then descendant ranges.
     pub fn jump(self, program: &[u32], nodes: &[u16], ranges: Ranges) -> Jump
-        ensures { result ≡ jumpOf program.now nodes.now ranges self }
+        ensures { result ≡ jump_of program.now nodes.now ranges self }
     {
         let slot = self.slot;
         if self.stage == 0 {

@@ -5,10 +5,10 @@ use Rattle.std.proofs.Common.{sym, ◌∙◌, ap, ap₂, eq-eqb, eqb-true}
 use Rattle.std.proofs.Math.Option.{some}
 use native.Mathlib.Omega.{arith}
 use Rattle.std.proofs.lemmas.List.{length-map}
-use Rattle.node_tests.specs.Tests.{readTagTest, readAttributeTest}
-use Rattle.node_records.specs.Records.{NodeRecord, recordAt, end_of, tagCount, attributeCount, testsAt, testsEnd, testsFrom}
+use Rattle.node_tests.specs.Tests.{read_tag_test, read_attribute_test}
+use Rattle.node_records.specs.Records.{NodeRecord, record_at, end_of, tag_count, attribute_count, tests_at, tests_end, tests_from}
 use Rattle.sheet.specs.Spelling.{Inside, Spells, Sheet}
-use Rattle.instructions.specs.Instructions.{rowWord}
+use Rattle.instructions.specs.Instructions.{row_word}
 use Rattle.instructions.specs.Instructions as instructions
 use Rattle.meaning.specs.Lists.{◌∈◌, here, there, Distinct, keep, put_if, sum}
 use Rattle.meaning.proofs.ListLaws.{mem-keep}
@@ -57,9 +57,9 @@ module _ (w : ℕ → ℕ) where
 
 -- ---- weights of nodes, each at most as heavy as its record is long
 module _ (w : NodeRecord → ℕ) where
-  unfoldable weightIn : Forest NodeRecord → ℕ
-  weightIn end = 0
-  weightIn (tree node k f) = w node + weightIn (k child) + weightIn (k descendant) + weightIn f
+  unfoldable weight_in : Forest NodeRecord → ℕ
+  weight_in end = 0
+  weight_in (tree node k f) = w node + weight_in (k child) + weight_in (k descendant) + weight_in f
 
   abbrev total : List (Instruction NodeRecord) → ℕ
   total xs = sum (map (λ i. w i.says) xs)
@@ -68,8 +68,8 @@ module _ (w : NodeRecord → ℕ) where
   total-cat [] ys = omega arith
   total-cat (x ∷ xs) ys = let h = total-cat xs ys in omega arith
 
-  total-below : (m : ℕ) (f : Forest NodeRecord) → total (block m f) + total (below m f) ≡ weightIn f
-  unfolding below weightIn
+  total-below : (m : ℕ) (f : Forest NodeRecord) → total (block m f) + total (below m f) ≡ weight_in f
+  unfolding below weight_in
   total-below m end = refl
   total-below m (tree node k f) =
       let m₁ = begins m k child + width (k child) in
@@ -83,7 +83,7 @@ module _ (w : NodeRecord → ℕ) where
       let v = total-cat (block m₁ (k child) ++ below m₁ (k child)) ((block m₂ (k descendant) ++ below m₂ (k descendant)) ++ below (ends m k) f) in
       omega arith
 
-  total-layout : (f : Forest NodeRecord) → total (layout 0 f) ≡ weightIn f
+  total-layout : (f : Forest NodeRecord) → total (layout 0 f) ≡ weight_in f
   total-layout f = total-cat (block (0 + width f) f) (below (0 + width f) f) ∙ total-below (0 + width f) f
 
   total-span : (v : ℕ → ℕ) (xs : List (Instruction NodeRecord)) (b : ℕ) → ((a : ℕ) (i : Instruction NodeRecord) → fetch xs a ≡ some i → v (b + a) ≡ w i.says) → sum (map v (span b (length xs))) ≡ total xs
@@ -93,9 +93,9 @@ module _ (w : NodeRecord → ℕ) where
       let e : v b ≡ w x.says = ap v (sym z) ∙ h 0 x refl in
       ap₂ (λ (u v : ℕ). u + v) e (total-span v xs (suc b) (λ a i q. let y : suc b + a ≡ b + suc a = omega arith in ap v y ∙ h (suc a) i q))
 
-  module _ (s : List ℕ) (light : (at : ℕ) (node : NodeRecord) → node ≡ recordAt s at → Inside s at → at + w node ≤ end_of s at) where
-    spelt-weight : {depth n at m : ℕ} {f : Forest NodeRecord} → Spells s depth n at f m → at + weightIn f ≤ m
-    unfolding weightIn
+  module _ (s : List ℕ) (light : (at : ℕ) (node : NodeRecord) → node ≡ record_at s at → Inside s at → at + w node ≤ end_of s at) where
+    spelt-weight : {depth n at m : ℕ} {f : Forest NodeRecord} → Spells s depth n at f m → at + weight_in f ≤ m
+    unfolding weight_in
     spelt-weight (Spells.none a b) = omega arith
     spelt-weight {at = at} (Spells.more {node = node} p q hn hd e i c d t) =
         let a = light at node e i in
@@ -115,32 +115,32 @@ module _ (w : NodeRecord → ℕ) where
         omega arith
 
 -- ---- tests, and their bytes
-abbrev testsOf : NodeRecord → ℕ
-testsOf node = length node.tagTests + length node.attributeTests
+abbrev tests_of : NodeRecord → ℕ
+tests_of node = length node.tag_tests + length node.attribute_tests
 
-record-tests : (s : List ℕ) (at : ℕ) (node : NodeRecord) → node ≡ recordAt s at → testsOf node ≡ tagCount s at + attributeCount s at
-unfolding recordAt
+record-tests : (s : List ℕ) (at : ℕ) (node : NodeRecord) → node ≡ record_at s at → tests_of node ≡ tag_count s at + attribute_count s at
+unfolding record_at
 record-tests s at node e =
-    ap testsOf e
-    ∙ ap₂ (λ (x y : ℕ). x + y) (length-map (testsFrom s (tagCount s at) (testsAt s at)) readTagTest ∙ length-tests s (tagCount s at) (testsAt s at))
-    (length-map (testsFrom s (attributeCount s at) (testsEnd s (tagCount s at) (testsAt s at))) readAttributeTest ∙ length-tests s (attributeCount s at) (testsEnd s (tagCount s at) (testsAt s at)))
+    ap tests_of e
+    ∙ ap₂ (λ (x y : ℕ). x + y) (length-map (tests_from s (tag_count s at) (tests_at s at)) read_tag_test ∙ length-tests s (tag_count s at) (tests_at s at))
+    (length-map (tests_from s (attribute_count s at) (tests_end s (tag_count s at) (tests_at s at))) read_attribute_test ∙ length-tests s (attribute_count s at) (tests_end s (tag_count s at) (tests_at s at)))
 
-record-first : (s : List ℕ) (at : ℕ) (node : NodeRecord) → node ≡ recordAt s at → node.firstTest ≡ testsAt s at
-unfolding recordAt
-record-first s at node e = ap (λ (n : NodeRecord). n.firstTest) e
+record-first : (s : List ℕ) (at : ℕ) (node : NodeRecord) → node ≡ record_at s at → node.first_test ≡ tests_at s at
+unfolding record_at
+record-first s at node e = ap (λ (n : NodeRecord). n.first_test) e
 
-tests-after : (s : List ℕ) (n m at : ℕ) → testsEnd s (n + m) at ≡ testsEnd s m (testsEnd s n at)
-unfolding testsEnd
+tests-after : (s : List ℕ) (n m at : ℕ) → tests_end s (n + m) at ≡ tests_end s m (tests_end s n at)
+unfolding tests_end
 tests-after s zero m at = let z : 0 + m ≡ m = omega arith in rw z
 tests-after s (suc n) m at = let z : suc n + m ≡ suc (n + m) = omega arith in rw z (tests-after s n m (end_of s at))
 
 -- The bytes that a node's tests take.
 abbrev bytes_of : List ℕ → NodeRecord → ℕ
-bytes_of s node = testsEnd s (testsOf node) node.firstTest - node.firstTest
+bytes_of s node = tests_end s (tests_of node) node.first_test - node.first_test
 
-bytes-light : (s : List ℕ) (at : ℕ) (node : NodeRecord) → node ≡ recordAt s at → Inside s at → at + bytes_of s node ≤ end_of s at
+bytes-light : (s : List ℕ) (at : ℕ) (node : NodeRecord) → node ≡ record_at s at → Inside s at → at + bytes_of s node ≤ end_of s at
 bytes-light s at node e i =
-    let d : testsEnd s (testsOf node) node.firstTest ≡ end_of s at = (λ z. testsEnd s (record-tests s at node e z) (record-first s at node e z)) ∙ tests-after s (tagCount s at) (attributeCount s at) (testsAt s at) ∙ i.whole in
+    let d : tests_end s (tests_of node) node.first_test ≡ end_of s at = (λ z. tests_end s (record-tests s at node e z) (record-first s at node e z)) ∙ tests-after s (tag_count s at) (attribute_count s at) (tests_at s at) ∙ i.whole in
     let f = record-first s at node e in
     let n = i.numbers in
     omega arith
@@ -149,14 +149,14 @@ module _ (sheet store : List ℕ) (bytes : (i : ℕ) → get_or sheet i 0 < 256)
   abbrev rows : List ℕ
   rows = prog sheet store bytes f good room
 
-  count-is : (a : ℕ) (i : Instruction NodeRecord) → fetch (layout 0 f) a ≡ some i → instructions.tagCount rows a + instructions.attributeCount rows a ≡ testsOf i.says
+  count-is : (a : ℕ) (i : Instruction NodeRecord) → fetch (layout 0 f) a ≡ some i → instructions.tag_count rows a + instructions.attribute_count rows a ≡ tests_of i.says
   count-is a i e = ap₂ (λ (x y : ℕ). x + y) (tag-count sheet store bytes f good room a i e ∙ sym (tags-many sheet store bytes f good room a i e)) (attribute-count sheet store bytes f good room a i e ∙ sym (attributes-many sheet store bytes f good room a i e))
 
   -- The tests of distinct nodes take no more bytes than the sheet has.
   pub few_bytes : (xs : List ℕ) → Distinct xs → ((x : ℕ) → x ∈ xs → x < size f)
-      → sum (map (λ a. instructions.testsEnd sheet (instructions.tagCount rows a + instructions.attributeCount rows a) (rowWord rows a 1) - rowWord rows a 1) xs) ≤ length sheet
+      → sum (map (λ a. instructions.tests_end sheet (instructions.tag_count rows a + instructions.attribute_count rows a) (row_word rows a 1) - row_word rows a 1) xs) ≤ length sheet
   few_bytes xs d h =
-      sheet-weight (bytes_of sheet) sheet (bytes-light sheet) f good (λ a. instructions.testsEnd sheet (instructions.tagCount rows a + instructions.attributeCount rows a) (rowWord rows a 1) - rowWord rows a 1)
+      sheet-weight (bytes_of sheet) sheet (bytes-light sheet) f good (λ a. instructions.tests_end sheet (instructions.tag_count rows a + instructions.attribute_count rows a) (row_word rows a 1) - row_word rows a 1)
       (λ a i e.
-      ap (λ (n : ℕ). n - rowWord rows a 1) (ends_same sheet (instructions.tagCount rows a + instructions.attributeCount rows a) (rowWord rows a 1))
-      ∙ (λ z. testsEnd sheet (count-is a i e z) (word_first sheet store bytes f good room a i e z) - word_first sheet store bytes f good room a i e z)) xs d h
+      ap (λ (n : ℕ). n - row_word rows a 1) (ends_same sheet (instructions.tag_count rows a + instructions.attribute_count rows a) (row_word rows a 1))
+      ∙ (λ z. tests_end sheet (count-is a i e z) (word_first sheet store bytes f good room a i e z) - word_first sheet store bytes f good room a i e z)) xs d h

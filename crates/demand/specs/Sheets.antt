@@ -1,10 +1,10 @@
 -- A sheet as a program of `meaning`: its tests over attributes as they are lent, the layout of its forest, sets of ids as two words.
 use Rattle.std.specs.Prelude.{List, [], ◌∷◌, ℕ, ltb}
 use Rattle.id_sets.specs.Ids.{ids_of}
-use Rattle.rules.specs.Attributes.{attributesOf}
+use Rattle.rules.specs.Attributes.{attributes_of}
 use Rattle.node_records.specs.Records.{NodeRecord}
-use Rattle.sheet.specs.Meaning.{sheetTests}
-use Rattle.instructions.specs.FoundIds.{withIds}
+use Rattle.sheet.specs.Meaning.{sheet_tests}
+use Rattle.instructions.specs.FoundIds.{with_ids}
 use Rattle.meaning.specs.Lists.{keep, gather}
 use Rattle.meaning.specs.Trees.{Forest}
 use Rattle.meaning.specs.Tests.{Tests}
@@ -18,38 +18,38 @@ pub record Lent : Type 0 where
   pub outlines : List ℕ
 
 -- The tests of a sheet, over attributes as they are lent.
-abbrev pub lentTests : Tests Lent
-lentTests = record {
-  D = sheetTests.D;
-  TagTest = sheetTests.TagTest;
-  AttributeTest = sheetTests.AttributeTest;
-  ids = sheetTests.ids;
-  tag-tests = sheetTests.tag-tests;
-  attribute-tests = sheetTests.attribute-tests;
-  tag-test = sheetTests.tag-test;
-  attribute-test = λ test tag lent. sheetTests.attribute-test test tag (attributesOf lent.input lent.outlines);
-  of-type = sheetTests.of-type;
-  not-of-type = sheetTests.not-of-type;
+abbrev pub lent_tests : Tests Lent
+lent_tests = record {
+  D = sheet_tests.D;
+  TagTest = sheet_tests.TagTest;
+  AttributeTest = sheet_tests.AttributeTest;
+  ids = sheet_tests.ids;
+  tag_tests = sheet_tests.tag_tests;
+  attribute_tests = sheet_tests.attribute_tests;
+  tag_test = sheet_tests.tag_test;
+  attribute_test = λ test tag lent. sheet_tests.attribute_test test tag (attributes_of lent.input lent.outlines);
+  of_type = sheet_tests.of_type;
+  not_of_type = sheet_tests.not_of_type;
 }
 
 -- The layout of a forest, its sets of ids as two words: no id of a good sheet is above 127.
-abbrev pub lowIds : Forest NodeRecord → ℕ → List ℕ
-lowIds f a = keep (λ i. ltb i 128) ((compiled lentTests f).ids a)
+abbrev pub low_ids : Forest NodeRecord → ℕ → List ℕ
+low_ids f a = keep (λ i. ltb i 128) ((compiled lent_tests f).ids a)
 
-abbrev pub sheetProgram : Forest NodeRecord → Program Lent
-sheetProgram f = record {
-  roots = (compiled lentTests f).roots;
-  hung = (compiled lentTests f).hung;
-  tag-tests = (compiled lentTests f).tag-tests;
-  attribute-tested = (compiled lentTests f).attribute-tested;
-  attribute-tests = (compiled lentTests f).attribute-tests;
-  untested = (compiled lentTests f).untested;
-  types-counted = (compiled lentTests f).types-counted;
-  uncounted = (compiled lentTests f).uncounted;
-  ids = lowIds f;
+abbrev pub sheet_program : Forest NodeRecord → Program Lent
+sheet_program f = record {
+  roots = (compiled lent_tests f).roots;
+  hung = (compiled lent_tests f).hung;
+  tag_tests = (compiled lent_tests f).tag_tests;
+  attribute_tested = (compiled lent_tests f).attribute_tested;
+  attribute_tests = (compiled lent_tests f).attribute_tests;
+  untested = (compiled lent_tests f).untested;
+  types_counted = (compiled lent_tests f).types_counted;
+  uncounted = (compiled lent_tests f).uncounted;
+  ids = low_ids f;
   Ids = List ℕ;
-  unite = λ ns. withIds (0 ∷ 0 ∷ []) (gather (lowIds f) ns);
+  unite = λ ns. with_ids (0 ∷ 0 ∷ []) (gather (low_ids f) ns);
   list = ids_of;
   rising = words-rise;
-  united = λ ns i. words_of (gather (lowIds f) ns) (low-kept (compiled lentTests f).ids ns) i;
+  united = λ ns i. words_of (gather (low_ids f) ns) (low-kept (compiled lent_tests f).ids ns) i;
 }

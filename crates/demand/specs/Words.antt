@@ -9,10 +9,10 @@ use native.Mathlib.Omega.{arith}
 use Rattle.std.proofs.Math.Nat.{zero-div}
 use borrow.Author.Tests.{eq-eqb, eqb-true, eqb-false, ltb-true, ltb-false}
 use Rattle.std.proofs.Math.Dec.{T, eqb, ltb}
-use Rattle.id_sets.specs.Ids.{hasId, idsFrom, ids_of, withId}
+use Rattle.id_sets.specs.Ids.{has_id, ids_from, ids_of, with_id}
 use Rattle.id_sets.specs.IdLaws as ids
 use Rattle.id_sets.specs.IdLaws.{member-inside, ids-rise}
-use Rattle.instructions.specs.FoundIds.{idsOfNode, withIds, withIdsOf, listed, with-ids-law, gathered-members}
+use Rattle.instructions.specs.FoundIds.{ids_of_node, with_ids, with_ids_of, listed, with-ids-law, gathered-members}
 use Rattle.meaning.specs.Lists.{◌∈◌, here, there, Rising, keep, gather}
 use Rattle.meaning.proofs.ListLaws.{keep-mem, mem-keep, gather-mem, mem-gather}
 
@@ -25,25 +25,25 @@ is_true false t = absurd t
 
 -- ---- the members of words
 module _ (words : List ℕ) where
-  listed-member : (id n i : ℕ) → i ∈ idsFrom words id n → T (hasId words i)
-  unfolding idsFrom
+  listed-member : (id n i : ℕ) → i ∈ ids_from words id n → T (has_id words i)
+  unfolding ids_from
   listed-member id zero i m = elim m [ ]
-  listed-member id (suc n) i m = go (hasId words id) refl (listed-member (id + 1) n i) m
+  listed-member id (suc n) i m = go (has_id words id) refl (listed-member (id + 1) n i) m
     where
-      go : (b : Bool) → hasId words id ≡ b → (i ∈ idsFrom words (id + 1) n → T (hasId words i)) → i ∈ cond b (id ∷ idsFrom words (id + 1) n) (idsFrom words (id + 1) n) → T (hasId words i)
+      go : (b : Bool) → has_id words id ≡ b → (i ∈ ids_from words (id + 1) n → T (has_id words i)) → i ∈ cond b (id ∷ ids_from words (id + 1) n) (ids_from words (id + 1) n) → T (has_id words i)
       go true e ih (here h) = rw h (holds e)
       go true e ih (there m) = ih m
       go false e ih m = ih m
 
-  member-listed : (id n i : ℕ) → id ≤ i → i < id + n → T (hasId words i) → i ∈ idsFrom words id n
-  unfolding idsFrom
+  member-listed : (id n i : ℕ) → id ≤ i → i < id + n → T (has_id words i) → i ∈ ids_from words id n
+  unfolding ids_from
   member-listed id zero i h g t = absurd (let q : ⊥ = omega arith in q)
-  member-listed id (suc n) i h g t = go (hasId words id) refl (eqb i id) refl (λ k. member-listed (id + 1) n i k (omega arith) t)
+  member-listed id (suc n) i h g t = go (has_id words id) refl (eqb i id) refl (λ k. member-listed (id + 1) n i k (omega arith) t)
     where
-      go : (b : Bool) → hasId words id ≡ b → (c : Bool) → eqb i id ≡ c → (id + 1 ≤ i → i ∈ idsFrom words (id + 1) n) → i ∈ cond b (id ∷ idsFrom words (id + 1) n) (idsFrom words (id + 1) n)
+      go : (b : Bool) → has_id words id ≡ b → (c : Bool) → eqb i id ≡ c → (id + 1 ≤ i → i ∈ ids_from words (id + 1) n) → i ∈ cond b (id ∷ ids_from words (id + 1) n) (ids_from words (id + 1) n)
       go true e true f ih = here (eqb-true i id f)
       go true e false f ih = let n' = eqb-false i id f in there (ih (omega arith))
-      go false e true f ih = let z : i ≡ id = eqb-true i id f in absurd (subst T (ap (hasId words) z ∙ e) t)
+      go false e true f ih = let z : i ≡ id = eqb-true i id f in absurd (subst T (ap (has_id words) z ∙ e) t)
       go false e false f ih = let n' = eqb-false i id f in ih (omega arith)
 
 least : (low : ℕ) (xs : List ℕ) → ids.Rising low xs → (y : ℕ) → y ∈ xs → low ≤ y
@@ -91,73 +91,73 @@ no_word zero = refl
 no_word (suc zero) = refl
 no_word (suc (suc k)) = refl
 
-no_member : (i : ℕ) → hasId (0 ∷ 0 ∷ []) i ≡ false
-unfolding hasId
+no_member : (i : ℕ) → has_id (0 ∷ 0 ∷ []) i ≡ false
+unfolding has_id
 no_member i = rw (no_word (i / 64), zero-div (2 ^ (i % 64)))
 
 -- Two words hold ids below 128.
 pub low-kept : (ids : ℕ → List ℕ) (found : List ℕ) (i : ℕ) → i ∈ gather (λ a. keep (λ j. ltb j 128) (ids a)) found → i < 128
 low-kept ids found i m = let (a, b, c) = gather-mem (λ a. keep (λ j. ltb j 128) (ids a)) found m in ltb-true i 128 (is_true (ltb i 128) (keep-mem (λ j. ltb j 128) (ids a) c).1)
 
-length_ids : (words more : List ℕ) → length (withIds words more) ≡ length words
-unfolding withIds withId
+length_ids : (words more : List ℕ) → length (with_ids words more) ≡ length words
+unfolding with_ids with_id
 length_ids words [] = refl
-length_ids words (id ∷ more) = length_ids (withId words id) more ∙ length-set words (id / 64) _
+length_ids words (id ∷ more) = length_ids (with_id words id) more ∙ length-set words (id / 64) _
 
-pub words_of : (xs : List ℕ) → ((i : ℕ) → i ∈ xs → i < 128) → (i : ℕ) → (i ∈ ids_of (withIds (0 ∷ 0 ∷ []) xs)) ↔ (i ∈ xs)
+pub words_of : (xs : List ℕ) → ((i : ℕ) → i ∈ xs → i < 128) → (i : ℕ) → (i ∈ ids_of (with_ids (0 ∷ 0 ∷ []) xs)) ↔ (i ∈ xs)
 unfolding ids_of
 words_of xs low i = (
-  (λ m. let t = listed-member (withIds (0 ∷ 0 ∷ []) xs) 0 65536 i m in within t (ltb i 128) refl),
+  (λ m. let t = listed-member (with_ids (0 ∷ 0 ∷ []) xs) 0 65536 i m in within t (ltb i 128) refl),
   (λ m.
       let h = low i m in
-      member-listed (withIds (0 ∷ 0 ∷ []) xs) 0 65536 i (omega arith) (omega arith) (rw (has i h) (mem-listed i xs m))),
+      member-listed (with_ids (0 ∷ 0 ∷ []) xs) 0 65536 i (omega arith) (omega arith) (rw (has i h) (mem-listed i xs m))),
 )
   where
-    has : (i : ℕ) → i < 128 → hasId (withIds (0 ∷ 0 ∷ []) xs) i ≡ listed i xs
+    has : (i : ℕ) → i < 128 → has_id (with_ids (0 ∷ 0 ∷ []) xs) i ≡ listed i xs
     has i h = with-ids-law (0 ∷ 0 ∷ []) xs i (omega arith) ∙ rw (no_member i)
 
-    within : T (hasId (withIds (0 ∷ 0 ∷ []) xs) i) → (b : Bool) → ltb i 128 ≡ b → i ∈ xs
+    within : T (has_id (with_ids (0 ∷ 0 ∷ []) xs) i) → (b : Bool) → ltb i 128 ≡ b → i ∈ xs
     within t true e = listed-mem i xs (rw (has i (ltb-true i 128 e)) at t)
     within t false e =
         let l = length_ids (0 ∷ 0 ∷ []) xs in
         let k : 128 ≤ i = ltb-false i 128 e in
-        absurd (subst T (member-inside (withIds (0 ∷ 0 ∷ []) xs) i (omega arith)) t)
+        absurd (subst T (member-inside (with_ids (0 ∷ 0 ∷ []) xs) i (omega arith)) t)
 
 module _ (sheet program : List ℕ) where
   -- The ids that a node's record lists, as far as two words reach.
-  abbrev pub nodeIds : ℕ → List ℕ
-  nodeIds a = keep (λ i. ltb i 128) (idsOfNode sheet program a)
+  abbrev pub node_ids : ℕ → List ℕ
+  node_ids a = keep (λ i. ltb i 128) (ids_of_node sheet program a)
 
-  length_found : (words found : List ℕ) → length (withIdsOf sheet program words found) ≡ length words
-  unfolding withIdsOf
+  length_found : (words found : List ℕ) → length (with_ids_of sheet program words found) ≡ length words
+  unfolding with_ids_of
   length_found words [] = refl
-  length_found words (a ∷ found) = length_found (withIds words (idsOfNode sheet program a)) found ∙ length_ids words (idsOfNode sheet program a)
+  length_found words (a ∷ found) = length_found (with_ids words (ids_of_node sheet program a)) found ∙ length_ids words (ids_of_node sheet program a)
 
   -- Two words.
-  pub two-words : (found : List ℕ) → length (withIdsOf sheet program (0 ∷ 0 ∷ []) found) ≡ 2
+  pub two-words : (found : List ℕ) → length (with_ids_of sheet program (0 ∷ 0 ∷ []) found) ≡ 2
   two-words found = length_found (0 ∷ 0 ∷ []) found
 
-  has-found : (found : List ℕ) (i : ℕ) → i < 128 → hasId (withIdsOf sheet program (0 ∷ 0 ∷ []) found) i ≡ listed i (gather (idsOfNode sheet program) found)
-  has-found found i h = gathered-members sheet program (0 ∷ 0 ∷ []) found i (omega arith) ∙ rw (no_member i, flat-gather (idsOfNode sheet program) found)
+  has-found : (found : List ℕ) (i : ℕ) → i < 128 → has_id (with_ids_of sheet program (0 ∷ 0 ∷ []) found) i ≡ listed i (gather (ids_of_node sheet program) found)
+  has-found found i h = gathered-members sheet program (0 ∷ 0 ∷ []) found i (omega arith) ∙ rw (no_member i, flat-gather (ids_of_node sheet program) found)
 
   -- The listed ids are those of the found nodes.
-  pub words-united : (found : List ℕ) (i : ℕ) → (i ∈ ids_of (withIdsOf sheet program (0 ∷ 0 ∷ []) found)) ↔ (i ∈ gather nodeIds found)
+  pub words-united : (found : List ℕ) (i : ℕ) → (i ∈ ids_of (with_ids_of sheet program (0 ∷ 0 ∷ []) found)) ↔ (i ∈ gather node_ids found)
   unfolding ids_of
   words-united found i = (
-    (λ m. let t = listed-member (withIdsOf sheet program (0 ∷ 0 ∷ []) found) 0 65536 i m in within t (ltb i 128) refl),
+    (λ m. let t = listed-member (with_ids_of sheet program (0 ∷ 0 ∷ []) found) 0 65536 i m in within t (ltb i 128) refl),
     (λ m.
-        let h = low-kept (idsOfNode sheet program) found i m in
-        let (a, b, c) = gather-mem nodeIds found m in
-        let d = mem-gather (idsOfNode sheet program) found b (keep-mem (λ j. ltb j 128) (idsOfNode sheet program a) c).0 in
-        member-listed (withIdsOf sheet program (0 ∷ 0 ∷ []) found) 0 65536 i (omega arith) (omega arith) (rw (has-found found i h) (mem-listed i (gather (idsOfNode sheet program) found) d))),
+        let h = low-kept (ids_of_node sheet program) found i m in
+        let (a, b, c) = gather-mem node_ids found m in
+        let d = mem-gather (ids_of_node sheet program) found b (keep-mem (λ j. ltb j 128) (ids_of_node sheet program a) c).0 in
+        member-listed (with_ids_of sheet program (0 ∷ 0 ∷ []) found) 0 65536 i (omega arith) (omega arith) (rw (has-found found i h) (mem-listed i (gather (ids_of_node sheet program) found) d))),
   )
     where
-      within : T (hasId (withIdsOf sheet program (0 ∷ 0 ∷ []) found) i) → (b : Bool) → ltb i 128 ≡ b → i ∈ gather nodeIds found
+      within : T (has_id (with_ids_of sheet program (0 ∷ 0 ∷ []) found) i) → (b : Bool) → ltb i 128 ≡ b → i ∈ gather node_ids found
       within t true e =
           let h = ltb-true i 128 e in
-          let (a, b, c) = gather-mem (idsOfNode sheet program) found (listed-mem i (gather (idsOfNode sheet program) found) (rw (has-found found i h) at t)) in
-          mem-gather nodeIds found b (mem-keep (λ j. ltb j 128) (idsOfNode sheet program a) c (holds e))
+          let (a, b, c) = gather-mem (ids_of_node sheet program) found (listed-mem i (gather (ids_of_node sheet program) found) (rw (has-found found i h) at t)) in
+          mem-gather node_ids found b (mem-keep (λ j. ltb j 128) (ids_of_node sheet program a) c (holds e))
       within t false e =
           let l = two-words found in
           let k : 128 ≤ i = ltb-false i 128 e in
-          absurd (subst T (member-inside (withIdsOf sheet program (0 ∷ 0 ∷ []) found) i (omega arith)) t)
+          absurd (subst T (member-inside (with_ids_of sheet program (0 ∷ 0 ∷ []) found) i (omega arith)) t)

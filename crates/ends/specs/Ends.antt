@@ -1,10 +1,10 @@
 -- End tag and id set asked, on lent stores (01, sections 2 to 4), for any bytes: the answer, and what every store holds after it. Refusals come first, and leave all as it was.
 use Rattle.std.specs.Prelude.{cond, not, List, map, ℕ, ◌*◌, eqb, ltb, length}
-use Rattle.letters.specs.Bytes.{lowerOf}
-use Rattle.stack.specs.Stores.{Stores, idWords, opens, poppedCount, poppedRows, poppedIds, topIds}
-use Rattle.shapes.specs.Shapes.{stateRefusal}
-use Rattle.weighing.specs.Weighing.{endRefusal}
-use Rattle.weighing.specs.Words.{noIds}
+use Rattle.letters.specs.Bytes.{lower_of}
+use Rattle.stack.specs.Stores.{Stores, id_words, opens, popped_count, popped_rows, popped_ids, ids_of_top}
+use Rattle.shapes.specs.Shapes.{state_refusal}
+use Rattle.weighing.specs.Weighing.{end_refusal}
+use Rattle.weighing.specs.Words.{no_ids}
 use Rattle.ends.specs.declared.Popped.{Popped}
 use Rattle.ends.specs.declared.Top.{Top}
 use Rattle.ends.specs.declared.TopReply.{TopReply}
@@ -21,24 +21,24 @@ ended answer rows out = record { answer = answer; rows = rows; out = out }
 -- So many are popped, unless the buffer is too short for their ids (29).
 unfoldable pub popping : (rows ids out : List ℕ) → (n : ℕ) → Ended
 popping rows ids out n =
-    cond (ltb (length out) (n * idWords)) (ended (Popped.Refused 29) rows out)
-    (ended (Popped.Elements n) (poppedRows rows n) (poppedIds rows ids out n))
+    cond (ltb (length out) (n * id_words)) (ended (Popped.Refused 29) rows out)
+    (ended (Popped.Elements n) (popped_rows rows n) (popped_ids rows ids out n))
 
 -- The id set of the top open element.
-abbrev pub topReply : Top → List ℕ → TopReply
-topReply top ids = record { top = top; ids = ids }
+abbrev pub top_reply : Top → List ℕ → TopReply
+top_reply top ids = record { top = top; ids = ids }
 
 module _ (sheet program : List ℕ) where
   -- End tag.
-  unfoldable pub endCall : Stores → (name out : List ℕ) → Ended
-  endCall s name out =
-      cond (not (eqb (stateRefusal sheet program s) 0)) (ended (Popped.Refused (stateRefusal sheet program s)) s.rows out)
-      (cond (not (eqb (endRefusal s.rows name) 0)) (ended (Popped.Refused (endRefusal s.rows name)) s.rows out)
-      (popping s.rows s.ids out (poppedCount s.rows s.names (map lowerOf name))))
+  unfoldable pub end_call : Stores → (name out : List ℕ) → Ended
+  end_call s name out =
+      cond (not (eqb (state_refusal sheet program s) 0)) (ended (Popped.Refused (state_refusal sheet program s)) s.rows out)
+      (cond (not (eqb (end_refusal s.rows name) 0)) (ended (Popped.Refused (end_refusal s.rows name)) s.rows out)
+      (popping s.rows s.ids out (popped_count s.rows s.names (map lower_of name))))
 
   -- The id set of the top open element, or that nothing is open.
-  unfoldable pub idSetCall : Stores → TopReply
-  idSetCall s =
-      cond (not (eqb (stateRefusal sheet program s) 0)) (topReply (Top.Refused (stateRefusal sheet program s)) noIds)
-      (cond (eqb (opens s.rows) 0) (topReply Top.NothingOpen noIds)
-      (topReply Top.Ids (topIds s.rows s.ids noIds)))
+  unfoldable pub id_set_call : Stores → TopReply
+  id_set_call s =
+      cond (not (eqb (state_refusal sheet program s) 0)) (top_reply (Top.Refused (state_refusal sheet program s)) no_ids)
+      (cond (eqb (opens s.rows) 0) (top_reply Top.NothingOpen no_ids)
+      (top_reply Top.Ids (ids_of_top s.rows s.ids no_ids)))

@@ -2,8 +2,8 @@
 #![tactic(auto)]
 
 ghost use Rattle.std.specs.Prelude.{◌≡◌};
-ghost use Rattle.stack.specs.Stores.{stores, poppedCount};
-ghost use Rattle.ends.specs.Ends.{ended, popping, endCall, idSetCall};
+ghost use Rattle.stack.specs.Stores.{stores, popped_count};
+ghost use Rattle.ends.specs.Ends.{ended, popping, end_call, id_set_call};
 
 use items::{count_popped, pop_items, top_ids};
 use shapes::state_refusal;
@@ -32,7 +32,7 @@ pub struct TopReply {
 
 // The pop of an end tag whose lower-cased name is at hand.
 fn end_lowered(rows: &mut [u32], names: &[u8], ids: &[u64], name: &[u8], out: &mut [u64]) -> Popped
-    ensures { ended result rows.new out.new ≡ popping rows.old ids.now out.old (poppedCount rows.old names.now name.now) }
+    ensures { ended result rows.new out.new ≡ popping rows.old ids.now out.old (popped_count rows.old names.now name.now) }
 {
     let n = count_popped(rows, names, name);
     if out.len() / 2 < n {
@@ -53,7 +53,7 @@ pub fn end(
     name: &[u8],
     out: &mut [u64],
 ) -> Popped
-    ensures { ended result rows.new out.new ≡ endCall sheet.now program.now (stores rows.old names.now ids.now nodes.now) name.now out.old }
+    ensures { ended result rows.new out.new ≡ end_call sheet.now program.now (stores rows.old names.now ids.now nodes.now) name.now out.old }
 {
     let state = state_refusal(sheet, program, rows, names, ids, nodes);
     if state != 0 {
@@ -78,7 +78,7 @@ pub fn id_set(
     ids: &[u64],
     nodes: &[u16],
 ) -> TopReply
-    ensures { result ≡ idSetCall sheet.now program.now (stores rows.now names.now ids.now nodes.now) }
+    ensures { result ≡ id_set_call sheet.now program.now (stores rows.now names.now ids.now nodes.now) }
 {
     let mut words = [0, 0];
     let state = state_refusal(sheet, program, rows, names, ids, nodes);

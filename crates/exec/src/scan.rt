@@ -1,8 +1,8 @@
 //! Going over the live instructions for a tag: by the tag alone until one asks for attributes, then with them (mod.rs).
 ghost use Rattle.std.specs.Prelude.{◌≡◌, ◌+◌, ◌≤◌, ◌<◌, ◌^◌, max, length};
 ghost use Rattle.cells.specs.Stretches.{written};
-ghost use Rattle.rules.specs.Attributes.{attributesOf};
-ghost use Rattle.exec.specs.Scans.{tagScan, answerFrom, foundIn, attributeScan};
+ghost use Rattle.rules.specs.Attributes.{attributes_of};
+ghost use Rattle.exec.specs.Scans.{tag_scan, answer_from, found_in, attribute_scan};
 ghost use Rattle.exec.specs.Searching.{Within};
 
 use candidates::{Candidate, next_candidate};
@@ -64,8 +64,8 @@ pub fn scan_tag(
     budget: u16,
     found: &mut [u16],
 ) -> Scanned
-    ensures { (result ≡ answerFrom 0 (tagScan sheet.now program.now nodes.now ranges name.now key child of_type from budget (length sheet.now)))
-        × (found.new ≡ written found.old 0 (foundIn (tagScan sheet.now program.now nodes.now ranges name.now key child of_type from budget (length sheet.now)))) }
+    ensures { (result ≡ answer_from 0 (tag_scan sheet.now program.now nodes.now ranges name.now key child of_type from budget (length sheet.now)))
+        × (found.new ≡ written found.old 0 (found_in (tag_scan sheet.now program.now nodes.now ranges name.now key child of_type from budget (length sheet.now)))) }
 {
     let mut c = from;
     let mut left = budget as usize;
@@ -124,8 +124,8 @@ pub fn scan_attributes(
     count: u16,
     found: &mut [u16],
 ) -> usize
-    ensures { (result ≡ count + length (attributeScan sheet.now program.now nodes.now ranges name.now key child of_type html (attributesOf input.now outlines.now) from budget (length sheet.now)))
-        × (found.new ≡ written found.old count (attributeScan sheet.now program.now nodes.now ranges name.now key child of_type html (attributesOf input.now outlines.now) from budget (length sheet.now))) }
+    ensures { (result ≡ count + length (attribute_scan sheet.now program.now nodes.now ranges name.now key child of_type html (attributes_of input.now outlines.now) from budget (length sheet.now)))
+        × (found.new ≡ written found.old count (attribute_scan sheet.now program.now nodes.now ranges name.now key child of_type html (attributes_of input.now outlines.now) from budget (length sheet.now))) }
 {
     let mut c = from;
     let mut left = budget as usize;

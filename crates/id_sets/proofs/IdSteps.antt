@@ -13,7 +13,7 @@ use lib.Dec.{eqb, ltb}
 use lib.ListN.{length, get_or, take, drop, set, length-append, drop_of_length-le, take-append-drop}
 use lib.Pow.{pow_mono, shl_exact, shr_le, shr-shr}
 use lib.Seq.{drop-cons, drop-set-lt, take-suc-set, take_all}
-use Rattle.id_sets.specs.Ids.{bit, hasId, idsFrom, first_of, withId, union}
+use Rattle.id_sets.specs.Ids.{bit, has_id, ids_from, first_of, with_id, union}
 use Rattle.id_sets.specs.IdLaws.{member-inside}
 use Rattle.id_sets.specs.declared.Next.{Next}
 
@@ -24,24 +24,24 @@ cond-append true x xs ys = refl
 cond-append false x xs ys = refl
 
 module _ (words : List ℕ) where
-  pub ids-split : (id m n : ℕ) → idsFrom words id (m + n) ≡ idsFrom words id m ++ idsFrom words (id + m) n
-  unfolding idsFrom
+  pub ids-split : (id m n : ℕ) → ids_from words id (m + n) ≡ ids_from words id m ++ ids_from words (id + m) n
+  unfolding ids_from
   ids-split id zero n = rw (zero-add n, add-zero id)
   ids-split id (suc m) n =
       let e : id + suc m ≡ id + 1 + m = omega arith in
-      rw (suc-add m n, e, ids-split (id + 1) m n) (cond-append (hasId words id) id (idsFrom words (id + 1) m) (idsFrom words (id + 1 + m) n))
+      rw (suc-add m n, e, ids-split (id + 1) m n) (cond-append (has_id words id) id (ids_from words (id + 1) m) (ids_from words (id + 1 + m) n))
 
-  pub ids-none : (id m : ℕ) → ((j : ℕ) → j < m → hasId words (id + j) ≡ false) → idsFrom words id m ≡ []
-  unfolding idsFrom
+  pub ids-none : (id m : ℕ) → ((j : ℕ) → j < m → has_id words (id + j) ≡ false) → ids_from words id m ≡ []
+  unfolding ids_from
   ids-none id zero h = refl
   ids-none id (suc m) h =
-      let a : hasId words id ≡ false = rw add-zero at (h 0 (omega arith)) in
+      let a : has_id words id ≡ false = rw add-zero at (h 0 (omega arith)) in
       rw a (ids-none (id + 1) m (λ j g. rw (add_assoc id 1 j) (h (1 + j) (omega arith))))
 
   module _ (k : ℕ) where
     -- the ids of word k are its bits
-    word-has : (j : ℕ) → j < 64 → hasId words (k * 64 + j) ≡ eqb (bit (get_or words k 0) j) 1
-    unfolding hasId
+    word-has : (j : ℕ) → j < 64 → has_id words (k * 64 + j) ≡ eqb (bit (get_or words k 0) j) 1
+    unfolding has_id
     word-has j h =
         let d : (k * 64 + j) / 64 ≡ k = omega arith in
         let m : (k * 64 + j) % 64 ≡ j = omega arith in
@@ -52,19 +52,19 @@ module _ (words : List ℕ) where
     digit (suc zero) h id ids = omega arith
     digit (suc (suc b)) h id ids = absurd (omega arith)
 
-    count-from : (j n : ℕ) → j + n ≡ 64 → get_or words k 0 < 2 ^ 64 → length (idsFrom words (k * 64 + j) n) ≡ ones (get_or words k 0 / 2 ^ j)
-    unfolding idsFrom ones ones_in
+    count-from : (j n : ℕ) → j + n ≡ 64 → get_or words k 0 < 2 ^ 64 → length (ids_from words (k * 64 + j) n) ≡ ones (get_or words k 0 / 2 ^ j)
+    unfolding ids_from ones ones_in
     count-from j zero e h = let z : j ≡ 64 = omega arith in rw (z, div-eq_of_lt h)
     count-from j (suc n) e h =
         let w = get_or words k 0 in
         rw (word-has j (omega arith), digit (bit w j) (omega arith), add_assoc (k * 64) j 1, count-from (j + 1) n (omega arith) h, ones_step (w / 2 ^ j), shr-shr w j 1)
 
     -- with the next word's ids the count is that of the words so far and its own
-    pub counted : (count : ℕ) → get_or words k 0 < 2 ^ 64 → count ≡ length (idsFrom words 0 (k * 64)) → count + ones (get_or words k 0) ≡ length (idsFrom words 0 ((k + 1) * 64))
+    pub counted : (count : ℕ) → get_or words k 0 < 2 ^ 64 → count ≡ length (ids_from words 0 (k * 64)) → count + ones (get_or words k 0) ≡ length (ids_from words 0 ((k + 1) * 64))
     counted count h q =
         let e : (k + 1) * 64 ≡ k * 64 + 64 = omega arith in
-        let c : length (idsFrom words (k * 64 + 0) 64) ≡ ones (get_or words k 0 / 2 ^ 0) = count-from 0 64 refl h in
-        let d : length (idsFrom words (k * 64) 64) ≡ ones (get_or words k 0) = rw (add-zero (k * 64), div-one (get_or words k 0)) at c in
+        let c : length (ids_from words (k * 64 + 0) 64) ≡ ones (get_or words k 0 / 2 ^ 0) = count-from 0 64 refl h in
+        let d : length (ids_from words (k * 64) 64) ≡ ones (get_or words k 0) = rw (add-zero (k * 64), div-one (get_or words k 0)) at c in
         rw (e, ids-split 0 (k * 64) 64, length-append, zero-add (k * 64), d, q)
 
 -- ---- the lowest bit of a word
@@ -78,14 +78,14 @@ half_lt k w h = let e = pow-suc 2 k in omega arith
 -- it stands where the zeros end
 record Lowest (w t k : ℕ) : Type 0 where
   pub inside : t < k
-  pub set-bit : bit w t ≡ 1
+  pub set_bit : bit w t ≡ 1
   pub zeros : (j : ℕ) → j < t → bit w j ≡ 0
 
 lowest-odd : (w k : ℕ) → w % 2 ≡ 1 → Lowest w 0 (suc k)
-lowest-odd w k e = record { inside = omega arith; set-bit = rw (div-one w) e; zeros = λ j h. absurd (omega arith) }
+lowest-odd w k e = record { inside = omega arith; set_bit = rw (div-one w) e; zeros = λ j h. absurd (omega arith) }
 
 lowest-even : (w t k : ℕ) → w % 2 ≡ 0 → Lowest (w / 2) t k → Lowest w (suc t) (suc k)
-lowest-even w t k e l = record { inside = omega (arith, l.inside); set-bit = bit-half w t ∙ l.set-bit; zeros = zeros-at }
+lowest-even w t k e l = record { inside = omega (arith, l.inside); set_bit = bit-half w t ∙ l.set_bit; zeros = zeros-at }
   where
     zeros-at : (j : ℕ) → j < suc t → bit w j ≡ 0
     zeros-at zero h = rw (div-one w) e
@@ -114,7 +114,7 @@ module _ (words : List ℕ) (k passed : ℕ) where
   bit-on : (j : ℕ) → bit (get_or words k 0) (passed + j) ≡ bit bits j
   bit-on j = rw (shr-shr (get_or words k 0) passed j)
 
-  has_on : (j b : ℕ) → passed + j < 64 → bit bits j ≡ b → hasId words (here + j) ≡ eqb b 1
+  has_on : (j b : ℕ) → passed + j < 64 → bit bits j ≡ b → has_id words (here + j) ≡ eqb b 1
   has_on j b h e = rw (add_assoc (k * 64) passed j, word-has words k (passed + j) h, bit-on j, e)
 
   module _ (fits : get_or words k 0 < 2 ^ 64) where
@@ -133,49 +133,49 @@ module _ (words : List ℕ) (k passed : ℕ) where
     first p = lowest 64 bits p (lt_of_le_of_lt (shr_le (get_or words k 0) passed) fits)
 
     pub next_small : 0 < bits → passed + count_trailing_zeros 64 bits < 64
-    next_small p = inside-word (count_trailing_zeros 64 bits) (first p).set-bit
+    next_small p = inside-word (count_trailing_zeros 64 bits) (first p).set_bit
 
     module _ (n : ℕ) (inside : (k + 1) * 64 ≤ n) where
-      pub next-found : 0 < bits → Next.Id (here + count_trailing_zeros 64 bits) ≡ first_of (idsFrom words here (n - here))
-      unfolding idsFrom first_of
+      pub next-found : 0 < bits → Next.Id (here + count_trailing_zeros 64 bits) ≡ first_of (ids_from words here (n - here))
+      unfolding ids_from first_of
       next-found p =
           let t = count_trailing_zeros 64 bits in
           let i : passed + t < 64 = next_small p in
           let m = n - (here + t + 1) in
           let e : n - here ≡ t + suc m = omega (arith, i, inside) in
-          let z : idsFrom words here t ≡ [] = ids-none words here t (λ j g. has_on j 0 (omega (arith, i, g)) ((first p).zeros j g)) in
-          rw (e, ids-split words here t (suc m), z, has_on t 1 i (first p).set-bit)
+          let z : ids_from words here t ≡ [] = ids-none words here t (λ j g. has_on j 0 (omega (arith, i, g)) ((first p).zeros j g)) in
+          rw (e, ids-split words here t (suc m), z, has_on t 1 i (first p).set_bit)
 
-      pub next-later : passed < 64 → bits ≡ 0 → idsFrom words here (n - here) ≡ idsFrom words ((k + 1) * 64 + 0) (n - ((k + 1) * 64 + 0))
+      pub next-later : passed < 64 → bits ≡ 0 → ids_from words here (n - here) ≡ ids_from words ((k + 1) * 64 + 0) (n - ((k + 1) * 64 + 0))
       next-later g e =
           let m = 64 - passed in
           let a : n - here ≡ m + (n - ((k + 1) * 64 + 0)) = omega (arith, inside, g) in
           let b : here + m ≡ (k + 1) * 64 + 0 = omega (arith, g) in
-          let z : idsFrom words here m ≡ [] = ids-none words here m (λ j h. has_on j 0 (omega (arith, h, g)) (rw (e, zero-div (2 ^ j)))) in
+          let z : ids_from words here m ≡ [] = ids-none words here m (λ j h. has_on j 0 (omega (arith, h, g)) (rw (e, zero-div (2 ^ j)))) in
           rw (a, ids-split words here m (n - ((k + 1) * 64 + 0)), z, b)
 
 -- past the words there is no member
-pub ids-past : (words : List ℕ) (id n : ℕ) → length words * 64 ≤ id → idsFrom words id n ≡ []
+pub ids-past : (words : List ℕ) (id n : ℕ) → length words * 64 ≤ id → ids_from words id n ≡ []
 ids-past words id n h = ids-none words id n (λ j g. member-inside words (id + j) (omega arith))
 
-pub next_past : (words : List ℕ) (id n : ℕ) → length words * 64 ≤ id → Next.Nothing ≡ first_of (idsFrom words id n)
+pub next_past : (words : List ℕ) (id n : ℕ) → length words * 64 ≤ id → Next.Nothing ≡ first_of (ids_from words id n)
 unfolding first_of
 next_past words id n h = rw (ids-past words id n h)
 
-pub next-none : (words : List ℕ) (id n : ℕ) → n ≤ id → Next.Nothing ≡ first_of (idsFrom words id (n - id))
-unfolding idsFrom first_of
+pub next-none : (words : List ℕ) (id n : ℕ) → n ≤ id → Next.Nothing ≡ first_of (ids_from words id (n - id))
+unfolding ids_from first_of
 next-none words id n h = let e : n - id ≡ 0 = omega arith in rw e
 
-pub count_past : (words : List ℕ) (k n : ℕ) → length words ≤ k → k * 64 ≤ n → length (idsFrom words 0 (k * 64)) ≡ length (idsFrom words 0 n)
+pub count_past : (words : List ℕ) (k n : ℕ) → length words ≤ k → k * 64 ≤ n → length (ids_from words 0 (k * 64)) ≡ length (ids_from words 0 n)
 count_past words k n h g =
     let e : n ≡ k * 64 + (n - k * 64) = omega arith in
-    let s : idsFrom words 0 n ≡ idsFrom words 0 (k * 64) ++ idsFrom words (0 + k * 64) (n - k * 64) = ap (idsFrom words 0) e ∙ ids-split words 0 (k * 64) (n - k * 64) in
-    rw (s, ids-past words (0 + k * 64) (n - k * 64) (omega arith), append-nil (idsFrom words 0 (k * 64)))
+    let s : ids_from words 0 n ≡ ids_from words 0 (k * 64) ++ ids_from words (0 + k * 64) (n - k * 64) = ap (ids_from words 0) e ∙ ids-split words 0 (k * 64) (n - k * 64) in
+    rw (s, ids-past words (0 + k * 64) (n - k * 64) (omega arith), append-nil (ids_from words 0 (k * 64)))
 
 -- ---- one id more, and unions
 
-pub with-is : (words last : List ℕ) (id w : ℕ) → w ≡ get_or words (id / 64) 0 → last ≡ set words (id / 64) (bit_or w (1 * 2 ^ (id % 64) % 2 ^ 64)) → last ≡ withId words id
-unfolding withId
+pub with-is : (words last : List ℕ) (id w : ℕ) → w ≡ get_or words (id / 64) 0 → last ≡ set words (id / 64) (bit_or w (1 * 2 ^ (id % 64) % 2 ^ 64)) → last ≡ with_id words id
+unfolding with_id
 with-is words last id w e f =
     let p : 1 * 2 ^ (id % 64) % 2 ^ 64 ≡ 1 * 2 ^ (id % 64) = shl_exact {a = 1} 1 (id % 64) 64 (omega arith) (omega arith) in
     f ∙ rw (p, one-mul (2 ^ (id % 64)), e)

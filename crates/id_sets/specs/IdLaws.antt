@@ -16,7 +16,7 @@ use Rattle.std.proofs.lemmas.Nat.{or_shr}
 use Rattle.std.proofs.Math.Dec.{T, eqb, eqb-suc-suc}
 use Rattle.std.proofs.Math.ListN.{get_or-eq_default}
 use Rattle.std.proofs.Math.Pow.{pow-lt}
-use Rattle.id_sets.specs.Ids.{bit, hasId, idsFrom, ids_of, withId, union}
+use Rattle.id_sets.specs.Ids.{bit, has_id, ids_from, ids_of, with_id, union}
 
 no-bit : (i : ℕ) → eqb (bit 0 i) 1 ≡ false
 no-bit i = rw (zero-div (2 ^ i))
@@ -34,38 +34,38 @@ rising-weaker least more [] h r = tt
 rising-weaker least more (id ∷ ids) h r = (omega (arith, r.0), r.1)
 
 module _ (words : List ℕ) where
-  pub rising-law : (id n : ℕ) → Rising id (idsFrom words id n)
-  unfolding idsFrom Rising
+  pub rising-law : (id n : ℕ) → Rising id (ids_from words id n)
+  unfolding ids_from Rising
   rising-law id zero = tt
-  rising-law id (suc n) = go (hasId words id) (rising-law (id + 1) n)
+  rising-law id (suc n) = go (has_id words id) (rising-law (id + 1) n)
     where
-      go : (b : Bool) → Rising (id + 1) (idsFrom words (id + 1) n) → Rising id (cond b (id ∷ idsFrom words (id + 1) n) (idsFrom words (id + 1) n))
+      go : (b : Bool) → Rising (id + 1) (ids_from words (id + 1) n) → Rising id (cond b (id ∷ ids_from words (id + 1) n) (ids_from words (id + 1) n))
       go true r = (omega arith, r)
-      go false r = rising-weaker id (id + 1) (idsFrom words (id + 1) n) (omega arith) r
+      go false r = rising-weaker id (id + 1) (ids_from words (id + 1) n) (omega arith) r
 
   -- what is listed from id on lies there, and is a member
-  listed-member : (id n i : ℕ) → Memᴰ i (idsFrom words id n) → T (hasId words i)
-  unfolding idsFrom
+  listed-member : (id n i : ℕ) → Memᴰ i (ids_from words id n) → T (has_id words i)
+  unfolding ids_from
   listed-member id zero i m = absurd (Memᴰ.not-nil m)
-  listed-member id (suc n) i m = go (hasId words id) refl (listed-member (id + 1) n i) m
+  listed-member id (suc n) i m = go (has_id words id) refl (listed-member (id + 1) n i) m
     where
-      go : (b : Bool) → hasId words id ≡ b → (Memᴰ i (idsFrom words (id + 1) n) → T (hasId words i)) → Memᴰ i (cond b (id ∷ idsFrom words (id + 1) n) (idsFrom words (id + 1) n)) → T (hasId words i)
+      go : (b : Bool) → has_id words id ≡ b → (Memᴰ i (ids_from words (id + 1) n) → T (has_id words i)) → Memᴰ i (cond b (id ∷ ids_from words (id + 1) n) (ids_from words (id + 1) n)) → T (has_id words i)
       go true e ih m = ⊎_elim (λ h. rw h (subst T (sym e) tt)) ih (Memᴰ.cases_cons m)
       go false e ih m = ih m
 
-  member-listed : (id n i : ℕ) → id ≤ i → i < id + n → T (hasId words i) → Memᴰ i (idsFrom words id n)
-  unfolding idsFrom
+  member-listed : (id n i : ℕ) → id ≤ i → i < id + n → T (has_id words i) → Memᴰ i (ids_from words id n)
+  unfolding ids_from
   member-listed id zero i h g t = absurd (omega arith)
-  member-listed id (suc n) i h g t = go (hasId words id) refl (eqb i id) refl (λ k. member-listed (id + 1) n i k (omega arith) t)
+  member-listed id (suc n) i h g t = go (has_id words id) refl (eqb i id) refl (λ k. member-listed (id + 1) n i k (omega arith) t)
     where
-      go : (b : Bool) → hasId words id ≡ b → (c : Bool) → eqb i id ≡ c → (id + 1 ≤ i → Memᴰ i (idsFrom words (id + 1) n)) → Memᴰ i (cond b (id ∷ idsFrom words (id + 1) n) (idsFrom words (id + 1) n))
+      go : (b : Bool) → has_id words id ≡ b → (c : Bool) → eqb i id ≡ c → (id + 1 ≤ i → Memᴰ i (ids_from words (id + 1) n)) → Memᴰ i (cond b (id ∷ ids_from words (id + 1) n) (ids_from words (id + 1) n))
       go true e true f ih = Memᴰ.head (eqb-true i id f)
       go true e false f ih = let n' = eqb-false i id f in Memᴰ.tail (ih (omega arith))
-      go false e true f ih = let z : i ≡ id = eqb-true i id f in absurd (subst T (ap (hasId words) z ∙ e) t)
+      go false e true f ih = let z : i ≡ id = eqb-true i id f in absurd (subst T (ap (has_id words) z ∙ e) t)
       go false e false f ih = let n' = eqb-false i id f in ih (omega arith)
 
   -- An id below 65,536 is listed exactly when it is a member.
-  pub ids-law : (i : ℕ) → i < 65536 → Memᴰ i (ids_of words) ↔ T (hasId words i)
+  pub ids-law : (i : ℕ) → i < 65536 → Memᴰ i (ids_of words) ↔ T (has_id words i)
   unfolding ids_of
   ids-law i h = (listed-member 0 65536 i, member-listed 0 65536 i (omega arith) (omega arith))
 
@@ -75,8 +75,8 @@ module _ (words : List ℕ) where
   ids-rise = rising-law 0 65536
 
 -- No id past the words is a member.
-pub member-inside : (words : List ℕ) (i : ℕ) → length words * 64 ≤ i → hasId words i ≡ false
-unfolding hasId
+pub member-inside : (words : List ℕ) (i : ℕ) → length words * 64 ≤ i → has_id words i ≡ false
+unfolding has_id
 member-inside words i h =
     let z : get_or words (i / 64) 0 ≡ 0 = get_or-eq_default words 0 (omega arith) in
     rw z (no-bit (i % 64))
@@ -109,8 +109,8 @@ union-word (w ∷ ws) (m ∷ more) zero i h = or-has w m i
 union-word (w ∷ ws) (m ∷ more) (suc k) i h = union-word ws more k i (omega arith)
 
 -- A member of a union is a member of one of its sets.
-pub union-law : (words more : List ℕ) (id : ℕ) → id / 64 < length words → hasId (union words more) id ≡ (hasId words id || hasId more id)
-unfolding hasId
+pub union-law : (words more : List ℕ) (id : ℕ) → id / 64 < length words → has_id (union words more) id ≡ (has_id words id || has_id more id)
+unfolding has_id
 union-law words more id h = union-word words more (id / 64) (id % 64) h
 
 -- a bit of a word with one bit
@@ -121,8 +121,8 @@ power-bit (suc a) zero = rw (div-one (2 ^ suc a), pow-suc 2 a, mul-mod_left (2 ^
 power-bit (suc a) (suc b) = rw (pow-succ' 2 a, pow-succ' 2 b, mul-div-mul_left {m = 2} (2 ^ a) (2 ^ b) (omega arith), eqb-suc-suc a b) (power-bit a b)
 
 -- The members of a set with one id more are its members and that id.
-pub with-law : (words : List ℕ) (id i : ℕ) → id / 64 < length words → hasId (withId words id) i ≡ (hasId words i || eqb id i)
-unfolding hasId withId
+pub with-law : (words : List ℕ) (id i : ℕ) → id / 64 < length words → has_id (with_id words id) i ≡ (has_id words i || eqb id i)
+unfolding has_id with_id
 with-law words id i h = go (eqb (i / 64) (id / 64)) refl
   where
     w : ℕ

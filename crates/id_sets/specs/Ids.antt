@@ -8,17 +8,17 @@ abbrev pub bit : ℕ → ℕ → ℕ
 bit w i = w / 2 ^ i % 2
 
 -- The id is a member of the set.
-unfoldable pub hasId : List ℕ → ℕ → Bool
-hasId words id = eqb (bit (get_or words (id / 64) 0) (id % 64)) 1
+unfoldable pub has_id : List ℕ → ℕ → Bool
+has_id words id = eqb (bit (get_or words (id / 64) 0) (id % 64)) 1
 
 -- The members among the next n ids, in rising order.
-unfoldable pub idsFrom : List ℕ → ℕ → ℕ → List ℕ
-idsFrom words id zero = []
-idsFrom words id (suc n) = cond (hasId words id) (id ∷ idsFrom words (id + 1) n) (idsFrom words (id + 1) n)
+unfoldable pub ids_from : List ℕ → ℕ → ℕ → List ℕ
+ids_from words id zero = []
+ids_from words id (suc n) = cond (has_id words id) (id ∷ ids_from words (id + 1) n) (ids_from words (id + 1) n)
 
 -- All members, in rising order: an id is below 65,536, whatever number of words there are.
 unfoldable pub ids_of : List ℕ → List ℕ
-ids_of words = idsFrom words 0 65536
+ids_of words = ids_from words 0 65536
 
 -- The first of a list, if there is one.
 unfoldable pub first_of : List ℕ → Next
@@ -26,8 +26,8 @@ first_of [] = Next.Nothing
 first_of (id ∷ ids) = Next.Id id
 
 -- The set with one id more.
-unfoldable pub withId : List ℕ → ℕ → List ℕ
-withId words id = set words (id / 64) (bit_or (get_or words (id / 64) 0) (2 ^ (id % 64)))
+unfoldable pub with_id : List ℕ → ℕ → List ℕ
+with_id words id = set words (id / 64) (bit_or (get_or words (id / 64) 0) (2 ^ (id % 64)))
 
 -- The union, word by word, as long as the first set.
 unfoldable pub union : List ℕ → List ℕ → List ℕ

@@ -2,7 +2,7 @@
 #![tactic(auto)]
 
 ghost use Rattle.std.specs.Prelude.{◌≡◌, ◌-◌, length};
-ghost use Rattle.id_sets.specs.Ids.{hasId, idsFrom, ids_of, first_of, withId, union};
+ghost use Rattle.id_sets.specs.Ids.{has_id, ids_from, ids_of, first_of, with_id, union};
 
 use cells::{get64, put64};
 
@@ -13,7 +13,7 @@ pub enum Next {
 }
 
 pub fn has_id(words: &[u64], id: usize) -> bool
-    ensures { result ≡ hasId words.now id }
+    ensures { result ≡ has_id words.now id }
 {
     let word = get64(words, id / 64);
     let bit = id % 64;
@@ -21,7 +21,7 @@ pub fn has_id(words: &[u64], id: usize) -> bool
 }
 
 pub fn add_id(words: &mut [u64], id: usize)
-    ensures { words.new ≡ withId words.old id }
+    ensures { words.new ≡ with_id words.old id }
 {
     let word = get64(words, id / 64);
     let bit = id % 64;
@@ -43,7 +43,7 @@ pub fn unite(words: &mut [u64], more: &[u64])
 
 // The first member from `from` on: in each word, by the zeros below its lowest bit.
 pub fn next_id(words: &[u64], from: usize) -> Next
-    ensures { result ≡ first_of (idsFrom words.now from (65536 - from)) }
+    ensures { result ≡ first_of (ids_from words.now from (65536 - from)) }
 {
     let mut i = from / 64;
     let mut passed = from % 64;

@@ -3,7 +3,7 @@
 
 ghost use Rattle.std.specs.Prelude.{◌≡◌, ◌≤◌, length};
 ghost use Rattle.stack.specs.Stores.{stores};
-ghost use Rattle.inputs.specs.Inputs.{wholeRun, whole_of};
+ghost use Rattle.inputs.specs.Inputs.{whole_run, whole_of};
 
 use lines::{put_refused, put_sheet_refused};
 use making::{Made, fresh_machine};
@@ -21,7 +21,7 @@ pub fn whole(
     out: &mut [u8],
 ) -> usize
     requires { (length input.now ≤ 1048576) × (8192 ≤ length out.old) × (length out.old ≤ 1048576) }
-    ensures nodes_after { wholeRun result program.new out.new (stores rows.new names.new ids.new nodes.new) ≡ whole_of input.now program.old out.old (stores rows.old names.old ids.old nodes.old) }
+    ensures nodes_after { whole_run result program.new out.new (stores rows.new names.new ids.new nodes.new) ≡ whole_of input.now program.old out.old (stores rows.old names.old ids.old nodes.old) }
     ensures upper_bound { result ≤ length out.new }
 {
     let n = sheet_end(input);

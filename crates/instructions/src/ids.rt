@@ -1,13 +1,13 @@
 //! The ids of the instructions that matched, gathered into one set (mod.rs: `add_execution_branch`).
 ghost use Rattle.std.specs.Prelude.{◌≡◌};
-ghost use Rattle.instructions.specs.FoundIds.{withIds, withIdsOf};
+ghost use Rattle.instructions.specs.FoundIds.{with_ids, with_ids_of};
 
 use cells::{at8, at16, at32, part_of};
 use id_sets::add_id;
 
 // The set with the listed ids.
 fn add_ids(listed: &[u8], ids: &mut [u64])
-    ensures { ids.new ≡ withIds ids.old listed.now }
+    ensures { ids.new ≡ with_ids ids.old listed.now }
 {
     let mut i = 0;
     while i < listed.len() {
@@ -18,7 +18,7 @@ fn add_ids(listed: &[u8], ids: &mut [u64])
 
 // The set with the ids of the found instructions: each row says where its record stands in the sheet.
 pub fn gather_ids(sheet: &[u8], program: &[u32], found: &[u16], ids: &mut [u64])
-    ensures { ids.new ≡ withIdsOf sheet.now program.now ids.old found.now }
+    ensures { ids.new ≡ with_ids_of sheet.now program.now ids.old found.now }
 {
     let mut i = 0;
     while i < found.len() {

@@ -1,7 +1,7 @@
 //! The tests of one instruction, read from its row and from the sheet (program.rs: `Instruction`).
 ghost use Rattle.std.specs.Prelude.{◌≡◌, ◌+◌, ◌-◌, ◌<◌, ◌≤◌, ◌^◌};
-ghost use Rattle.rules.specs.Attributes.{attributesOf};
-ghost use Rattle.instructions.specs.Instructions.{rowWord, tagTestsHold, attributeTestsHold, testsEnd, tagCount, attributeCount, tagTestsPass, attributePasses, asks};
+ghost use Rattle.rules.specs.Attributes.{attributes_of};
+ghost use Rattle.instructions.specs.Instructions.{row_word, tag_tests_hold, attribute_tests_hold, tests_end, tag_count, attribute_count, tag_tests_pass, attribute_passes, asks};
 
 use cells::numbers::u16_at;
 use cells::{at32, part_of};
@@ -10,7 +10,7 @@ use node_tests::{attribute_test, tag_test};
 // So many tag tests from a place of the sheet on.
 fn tag_tests(sheet: &[u8], name: &[u8], child: u32, of_type: u32, count: usize, from: usize) -> bool
     requires { (count < 2 ^ 8) × (from < 2 ^ 48) }
-    ensures { result ≡ tagTestsHold sheet.now name.now child of_type count from }
+    ensures { result ≡ tag_tests_hold sheet.now name.now child of_type count from }
 {
     let mut left = count;
     let mut at = from;
@@ -35,7 +35,7 @@ fn attribute_tests(
     from: usize,
 ) -> bool
     requires { (count < 2 ^ 8) × (from < 2 ^ 49) }
-    ensures { result ≡ attributeTestsHold sheet.now html (attributesOf input.now outlines.now) count from }
+    ensures { result ≡ attribute_tests_hold sheet.now html (attributes_of input.now outlines.now) count from }
 {
     let mut left = count;
     let mut at = from;
@@ -53,7 +53,7 @@ fn attribute_tests(
 // Where so many tests end.
 fn tests_end(sheet: &[u8], count: usize, from: usize) -> usize
     requires { (count < 2 ^ 9) × (from < 2 ^ 48) }
-    ensures { (result ≡ testsEnd sheet.now count from) × ((from ≤ result) × (result < 2 ^ 49)) }
+    ensures { (result ≡ tests_end sheet.now count from) × ((from ≤ result) × (result < 2 ^ 49)) }
 {
     let mut left = count;
     let mut at = from;
@@ -66,7 +66,7 @@ fn tests_end(sheet: &[u8], count: usize, from: usize) -> usize
 
 // How many bytes of the sheet the tests of an instruction take.
 pub fn tests_bytes(sheet: &[u8], program: &[u32], a: u16) -> usize
-    ensures { result ≡ testsEnd sheet.now (tagCount program.now a + attributeCount program.now a) (rowWord program.now a 1) - rowWord program.now a 1 }
+    ensures { result ≡ tests_end sheet.now (tag_count program.now a + attribute_count program.now a) (row_word program.now a 1) - row_word program.now a 1 }
 {
     let row = a as usize * 8;
     let counts = at32(program, row + 2);
@@ -83,7 +83,7 @@ pub fn tag_tests_pass(
     child: u32,
     of_type: u32,
 ) -> bool
-    ensures { result ≡ tagTestsPass sheet.now program.now name.now child of_type a }
+    ensures { result ≡ tag_tests_pass sheet.now program.now name.now child of_type a }
 {
     let row = a as usize * 8;
     let count = at32(program, row + 2) / 256 % 256;
@@ -99,7 +99,7 @@ pub fn attributes_pass(
     outlines: &[u32],
     html: bool,
 ) -> bool
-    ensures { result ≡ attributePasses sheet.now program.now html (attributesOf input.now outlines.now) a }
+    ensures { result ≡ attribute_passes sheet.now program.now html (attributes_of input.now outlines.now) a }
 {
     let row = a as usize * 8;
     let counts = at32(program, row + 2);

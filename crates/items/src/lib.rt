@@ -2,8 +2,8 @@
 #![tactic(auto)]
 
 ghost use Rattle.std.specs.Prelude.{◌≡◌, ◌<◌, ◌≤◌, ◌^◌, ltb};
-ghost use Rattle.cells.specs.Stretches.{cellsFrom, written};
-ghost use Rattle.stack.specs.Stores.{openLimit, parentLimit, ancestorLimit, foundLimit, nameLimit, idWords, stores, opens, parentsTop, ancestorsTop, childBlock, bears, bearers, listed, newAncestors, with_row, pushed, nearest, poppedCount, poppedRows, poppedIds, topIds};
+ghost use Rattle.cells.specs.Stretches.{cells_from, written};
+ghost use Rattle.stack.specs.Stores.{open_limit, parent_limit, ancestor_limit, found_limit, name_limit, id_words, stores, opens, parents_top, ancestors_top, child_block, bears, bearers, listed, new_ancestors, with_row, pushed, nearest, popped_count, popped_rows, popped_ids, ids_of_top};
 
 use cells::{at32, get32};
 use counters::holds_name;
@@ -29,7 +29,7 @@ pub fn find_open(rows: &[u32], names: &[u8], name: &[u8]) -> usize
 
 // How many an end tag of the name pops.
 pub fn count_popped(rows: &[u32], names: &[u8], name: &[u8]) -> usize
-    ensures { (result ≡ poppedCount rows.now names.now name.now) × (result ≤ opens rows.now) }
+    ensures { (result ≡ popped_count rows.now names.now name.now) × (result ≤ opens rows.now) }
 {
     let p = find_open(rows, names, name);
     if p == 0 {
@@ -41,7 +41,7 @@ pub fn count_popped(rows: &[u32], names: &[u8], name: &[u8]) -> usize
 // The pop of the n innermost: their ids go out, the outermost first, and the header is as it was before that one came. That n are open, count_popped promises.
 pub fn pop_items(rows: &mut [u32], ids: &[u64], n: usize, out: &mut [u64])
     requires { n ≤ opens rows.old }
-    ensures { (rows.new ≡ poppedRows rows.old n) × (out.new ≡ poppedIds rows.old ids.now out.old n) }
+    ensures { (rows.new ≡ popped_rows rows.old n) × (out.new ≡ popped_ids rows.old ids.now out.old n) }
 {
     let k = at32(rows, OPENS) - n;
     copy64(ids, (k + 1) * ID_WORDS, n * ID_WORDS, out, 0);
@@ -60,7 +60,7 @@ pub fn pop_items(rows: &mut [u32], ids: &[u64], n: usize, out: &mut [u64])
 
 // The ids of the top open element; the answer is whether there is one.
 pub fn top_ids(rows: &[u32], ids: &[u64], out: &mut [u64]) -> bool
-    ensures { (result ≡ ltb 0 (opens rows.now)) × (out.new ≡ topIds rows.now ids.now out.old) }
+    ensures { (result ≡ ltb 0 (opens rows.now)) × (out.new ≡ ids_of_top rows.now ids.now out.old) }
 {
     let k = at32(rows, OPENS);
     if k == 0 {

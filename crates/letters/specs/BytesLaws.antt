@@ -1,9 +1,9 @@
--- `equalBytes` decides equality of byte strings, `sameBytes` equality under case rules.
+-- `equal_bytes` decides equality of byte strings, `same_bytes` equality under case rules.
 use Rattle.std.specs.Prelude.{◌≡◌, refl, ◌↔◌, ◌⊎◌, Bool, true, false, ◌&&◌, ◌||◌, List, [], ◌∷◌, ℕ, ◌+◌, ◌<◌, ◌≤◌, length, get_or, drop, T, eqb}
 use Rattle.std.proofs.Common.{sym, ap, ◌∙◌, subst, inl, inr, ⊎_elim, add-one, drop_of_length-le, drop-cons, eq-eqb, eqb→eq}
 use Rattle.std.proofs.lemmas.List.{length-map}
 use Rattle.std.proofs.Math.Facts.{and_yes, yes_and}
-use Rattle.letters.specs.Bytes.{foldByte, equalBytes, fold, sameBytes}
+use Rattle.letters.specs.Bytes.{fold_byte, equal_bytes, fold, same_bytes}
 
 -- what `&&` and `||` say, and a choice between things that are each the same
 pub and-law : (a b : Bool) → T (a && b) ↔ (T a × T b)
@@ -23,45 +23,45 @@ is_false false n = refl
 pub holds : {b : Bool} → b ≡ true → T b
 holds e = subst T (sym e) tt
 
-pub equal→eq : (a b : List ℕ) → T (equalBytes a b) → a ≡ b
+pub equal→eq : (a b : List ℕ) → T (equal_bytes a b) → a ≡ b
 equal→eq [] [] t = refl
 equal→eq [] (y ∷ ys) t = absurd t
 equal→eq (x ∷ xs) [] t = absurd t
 equal→eq (x ∷ xs) (y ∷ ys) t =
-    let (e, r) = and_yes (eqb x y) (equalBytes xs ys) t in
+    let (e, r) = and_yes (eqb x y) (equal_bytes xs ys) t in
     let p = eqb→eq x y e in
     let q = equal→eq xs ys r in
     cc
 
-pub equal-refl : (a : List ℕ) → equalBytes a a ≡ true
+pub equal-refl : (a : List ℕ) → equal_bytes a a ≡ true
 equal-refl [] = refl
 equal-refl (x ∷ xs) = rw (eq-eqb x x refl) (equal-refl xs)
 
-pub equal-ne : (a b : List ℕ) → (a ≡ b → ⊥) → equalBytes a b ≡ false
-equal-ne a b n = is_false (equalBytes a b) (λ t. n (equal→eq a b t))
+pub equal-ne : (a b : List ℕ) → (a ≡ b → ⊥) → equal_bytes a b ≡ false
+equal-ne a b n = is_false (equal_bytes a b) (λ t. n (equal→eq a b t))
 
 pub fold-false : (w : List ℕ) → fold false w ≡ w
 fold-false [] = refl
 fold-false (x ∷ w) = ap (λ (l : List ℕ). x ∷ l) (fold-false w)
 
 -- the law that a reader wants
-pub same-law : (f g : Bool) (a b : List ℕ) → T (sameBytes f g a b) ↔ (fold f a ≡ fold g b)
-unfolding sameBytes
+pub same-law : (f g : Bool) (a b : List ℕ) → T (same_bytes f g a b) ↔ (fold f a ≡ fold g b)
+unfolding same_bytes
 same-law f g a b = (equal→eq (fold f a) (fold g b), λ e. rw e (holds (equal-refl (fold g b))))
 
 -- the same where the second is compared as it is
-pub exact-law : (f : Bool) (a b : List ℕ) → T (sameBytes f false a b) ↔ (fold f a ≡ b)
+pub exact-law : (f : Bool) (a b : List ℕ) → T (same_bytes f false a b) ↔ (fold f a ≡ b)
 exact-law f a b = rw (fold-false b) at (same-law f false a b)
 
-pub same-long : (f g : Bool) (a b : List ℕ) → (length a ≡ length b → ⊥) → sameBytes f g a b ≡ false
-unfolding sameBytes
-same-long f g a b n = equal-ne (fold f a) (fold g b) (λ e. n (sym (length-map a (foldByte f)) ∙ ap length e ∙ length-map b (foldByte g)))
+pub same-long : (f g : Bool) (a b : List ℕ) → (length a ≡ length b → ⊥) → same_bytes f g a b ≡ false
+unfolding same_bytes
+same-long f g a b n = equal-ne (fold f a) (fold g b) (λ e. n (sym (length-map a (fold_byte f)) ∙ ap length e ∙ length-map b (fold_byte g)))
 
 -- one place more
-pub same_step : (f g : Bool) (a b : List ℕ) (i : ℕ) → i < length a → i < length b → sameBytes f g (drop i a) (drop i b) ≡ (eqb (foldByte f (get_or a i 0)) (foldByte g (get_or b i 0)) && sameBytes f g (drop (i + 1) a) (drop (i + 1) b))
-unfolding sameBytes
+pub same_step : (f g : Bool) (a b : List ℕ) (i : ℕ) → i < length a → i < length b → same_bytes f g (drop i a) (drop i b) ≡ (eqb (fold_byte f (get_or a i 0)) (fold_byte g (get_or b i 0)) && same_bytes f g (drop (i + 1) a) (drop (i + 1) b))
+unfolding same_bytes
 same_step f g a b i ha hb = rw (add-one, drop-cons a i 0 ha, drop-cons b i 0 hb)
 
-pub same_end : (f g : Bool) (a b : List ℕ) (i : ℕ) → length a ≤ i → length b ≤ i → sameBytes f g (drop i a) (drop i b) ≡ true
-unfolding sameBytes
+pub same_end : (f g : Bool) (a b : List ℕ) (i : ℕ) → length a ≤ i → length b ≤ i → same_bytes f g (drop i a) (drop i b) ≡ true
+unfolding same_bytes
 same_end f g a b i ha hb = rw (drop_of_length-le a ha, drop_of_length-le b hb)

@@ -2,11 +2,11 @@
 #![tactic(auto)]
 
 ghost use Rattle.std.specs.Prelude.{◌≡◌};
-ghost use Rattle.letters.specs.Bytes.{lowerOf, foldByte, sameBytes, spaceByte};
+ghost use Rattle.letters.specs.Bytes.{lower_of, fold_byte, same_bytes, space_byte};
 
 // A to Z become a to z.
 pub fn lower(b: u8) -> u8
-    ensures { result ≡ lowerOf b }
+    ensures { result ≡ lower_of b }
 {
     if b < 65 {
         return b;
@@ -18,14 +18,14 @@ pub fn lower(b: u8) -> u8
 }
 
 pub fn fold_byte(b: u8, ignore: bool) -> u8
-    ensures { result ≡ foldByte ignore b }
+    ensures { result ≡ fold_byte ignore b }
 {
     if ignore { lower(b) } else { b }
 }
 
 // Whether two byte strings are equal, each under a case rule of its own.
 pub fn same(a: &[u8], f: bool, b: &[u8], g: bool) -> bool
-    ensures { result ≡ sameBytes f g a.now b.now }
+    ensures { result ≡ same_bytes f g a.now b.now }
 {
     if a.len() != b.len() {
         return false;
@@ -42,7 +42,7 @@ pub fn same(a: &[u8], f: bool, b: &[u8], g: bool) -> bool
 
 // Space, LF, CR, tab, form feed.
 pub fn is_attr_whitespace(b: u8) -> bool
-    ensures { result ≡ spaceByte b }
+    ensures { result ≡ space_byte b }
 {
     if b == b' ' {
         return true;

@@ -2,45 +2,45 @@
 use Rattle.std.specs.Prelude.{List, [], ◌∷◌, ◌++◌, ℕ}
 use Rattle.text.specs.Text.{decimal}
 
-abbrev pub newLine : List ℕ
-newLine = 10 ∷ []
+abbrev pub new_line : List ℕ
+new_line = 10 ∷ []
 
 -- `pop `, `refused `, `sheet refused `, ` at `, `bad trace at `
-abbrev pub popWord : List ℕ
-popWord = 112 ∷ (111 ∷ (112 ∷ (32 ∷ [])))
+abbrev pub pop_word : List ℕ
+pop_word = 112 ∷ (111 ∷ (112 ∷ (32 ∷ [])))
 
-abbrev pub refusedWord : List ℕ
-refusedWord = 114 ∷ (101 ∷ (102 ∷ (117 ∷ (115 ∷ (101 ∷ (100 ∷ (32 ∷ [])))))))
+abbrev pub refused_word : List ℕ
+refused_word = 114 ∷ (101 ∷ (102 ∷ (117 ∷ (115 ∷ (101 ∷ (100 ∷ (32 ∷ [])))))))
 
-abbrev pub sheetWord : List ℕ
-sheetWord = 115 ∷ (104 ∷ (101 ∷ (101 ∷ (116 ∷ (32 ∷ (114 ∷ (101 ∷ (102 ∷ (117 ∷ (115 ∷ (101 ∷ (100 ∷ (32 ∷ [])))))))))))))
+abbrev pub sheet_word : List ℕ
+sheet_word = 115 ∷ (104 ∷ (101 ∷ (101 ∷ (116 ∷ (32 ∷ (114 ∷ (101 ∷ (102 ∷ (117 ∷ (115 ∷ (101 ∷ (100 ∷ (32 ∷ [])))))))))))))
 
-abbrev pub atWord : List ℕ
-atWord = 32 ∷ (97 ∷ (116 ∷ (32 ∷ [])))
+abbrev pub at_word : List ℕ
+at_word = 32 ∷ (97 ∷ (116 ∷ (32 ∷ [])))
 
-abbrev pub badTraceWord : List ℕ
-badTraceWord = 98 ∷ (97 ∷ (100 ∷ (32 ∷ (116 ∷ (114 ∷ (97 ∷ (99 ∷ (101 ∷ (32 ∷ (97 ∷ (116 ∷ (32 ∷ []))))))))))))
+abbrev pub bad_trace_word : List ℕ
+bad_trace_word = 98 ∷ (97 ∷ (100 ∷ (32 ∷ (116 ∷ (114 ∷ (97 ∷ (99 ∷ (101 ∷ (32 ∷ (97 ∷ (116 ∷ (32 ∷ []))))))))))))
 
 -- `attrs`
-abbrev pub attrsLine : List ℕ
-attrsLine = 97 ∷ (116 ∷ (116 ∷ (114 ∷ (115 ∷ (10 ∷ [])))))
+abbrev pub attrs_line : List ℕ
+attrs_line = 97 ∷ (116 ∷ (116 ∷ (114 ∷ (115 ∷ (10 ∷ [])))))
 
 -- A word and a number.
-unfoldable pub numberLine : (word : List ℕ) → (n : ℕ) → List ℕ
-numberLine word n = (word ++ decimal n) ++ newLine
+unfoldable pub number_line : (word : List ℕ) → (n : ℕ) → List ℕ
+number_line word n = (word ++ decimal n) ++ new_line
 
 -- `pop N`
-abbrev pub popLine : ℕ → List ℕ
-popLine n = numberLine popWord n
+abbrev pub pop_line : ℕ → List ℕ
+pop_line n = number_line pop_word n
 
 -- `refused N`
-abbrev pub refusedLine : ℕ → List ℕ
-refusedLine n = numberLine refusedWord n
+abbrev pub refused_line : ℕ → List ℕ
+refused_line n = number_line refused_word n
 
 -- `sheet refused N at K`
-unfoldable pub sheetLine : (n place : ℕ) → List ℕ
-sheetLine n place = (sheetWord ++ decimal n) ++ numberLine atWord place
+unfoldable pub sheet_line : (n place : ℕ) → List ℕ
+sheet_line n place = (sheet_word ++ decimal n) ++ number_line at_word place
 
 -- `bad trace at K`
-abbrev pub badTraceLine : ℕ → List ℕ
-badTraceLine place = numberLine badTraceWord place
+abbrev pub bad_trace_line : ℕ → List ℕ
+bad_trace_line place = number_line bad_trace_word place

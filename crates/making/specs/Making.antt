@@ -1,10 +1,10 @@
 -- Making a machine on lent stores (01, sections 2 and 3), for any bytes: the answer, and what the stores hold after it. A refusal leaves all as it was.
 use Rattle.std.specs.Prelude.{Bool, cond, not, List, ℕ, ◌+◌, length}
-use Rattle.sheet.specs.Parser.{parseSheet}
-use Rattle.compiler.specs.Compiler.{compiledOf, store_of}
+use Rattle.sheet.specs.Parser.{parse_sheet}
+use Rattle.compiler.specs.Compiler.{compiled_of, store_of}
 use Rattle.compiler.specs.declared.Compiled.{Compiled}
-use Rattle.stack.specs.Stores.{Stores, freshRows}
-use Rattle.shapes.specs.Shapes.{madeMark, sized}
+use Rattle.stack.specs.Stores.{Stores, fresh_rows}
+use Rattle.shapes.specs.Shapes.{made_mark, sized}
 use Rattle.weighing.specs.Words.{cell}
 use Rattle.making.specs.declared.Made.{Made}
 
@@ -23,9 +23,9 @@ flags_of esi types = cond esi 1 0 + cond types 2 0
 -- The sheet is refused with its place, or compiled, and nothing is open.
 unfoldable pub fresh_of : (sheet : List ℕ) → (esi : Bool) → (program rows : List ℕ) → Compiled → Fresh
 fresh_of sheet esi program rows (Compiled.Refused number place) = fresh (Made.Sheet number place) program rows
-fresh_of sheet esi program rows (Compiled.Made types) = fresh Made.Made (store_of (parseSheet sheet) program) (freshRows rows madeMark (cell (length sheet)) (flags_of esi types))
+fresh_of sheet esi program rows (Compiled.Made types) = fresh Made.Made (store_of (parse_sheet sheet) program) (fresh_rows rows made_mark (cell (length sheet)) (flags_of esi types))
 
-unfoldable pub freshCall : (sheet : List ℕ) → (esi : Bool) → (program : List ℕ) → Stores → Fresh
-freshCall sheet esi program s =
+unfoldable pub fresh_call : (sheet : List ℕ) → (esi : Bool) → (program : List ℕ) → Stores → Fresh
+fresh_call sheet esi program s =
     cond (not (sized s)) (fresh (Made.Refused 31) program s.rows)
-    (fresh_of sheet esi program s.rows (compiledOf (parseSheet sheet) program))
+    (fresh_of sheet esi program s.rows (compiled_of (parse_sheet sheet) program))

@@ -3,7 +3,7 @@
 
 ghost use Rattle.std.specs.Prelude.{◌≡◌};
 ghost use Rattle.stack.specs.Stores.{stores};
-ghost use Rattle.making.specs.Making.{flags_of, fresh, freshCall};
+ghost use Rattle.making.specs.Making.{flags_of, fresh, fresh_call};
 
 use compiler::{Compiled, compile};
 use shapes::is_sized;
@@ -43,7 +43,7 @@ pub fn fresh_machine(
     ids: &[u64],
     nodes: &[u16],
 ) -> Made
-    ensures { fresh result program.new rows.new ≡ freshCall sheet.now esi program.old (stores rows.old names.now ids.now nodes.now) }
+    ensures { fresh result program.new rows.new ≡ fresh_call sheet.now esi program.old (stores rows.old names.now ids.now nodes.now) }
 {
     if !is_sized(rows, names, ids, nodes) {
         return Made::Refused(31);

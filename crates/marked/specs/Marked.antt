@@ -1,31 +1,31 @@
 -- The marked examples P1 to P12 of 01, section 6, as one list of expected results.
 use Rattle.std.specs.Prelude.{◌≡◌, Bool, true, false, List, [], ◌∷◌, map, ℕ, ◌+◌, ◌*◌, ℤ, pos, negsuc, replicate, get_or}
-use Rattle.nth.specs.Nth.{nthHolds}
+use Rattle.nth.specs.Nth.{nth_holds}
 use Rattle.operators.specs.declared.Operator.{Operator}
 use Rattle.operators.specs.declared.Operator.TheVariants.{Includes, Dash, Prefix, Suffix, Substring}
-use Rattle.node_tests.specs.Tests.{compares, attributeHolds}
+use Rattle.node_tests.specs.Tests.{compares, attribute_holds}
 use Rattle.compiler.specs.Examples.{p10}
-use Rattle.stack.specs.Stores.{Stores, stores, rowsSize, namesSize, idsSize, nodesSize}
-use Rattle.making.specs.Making.{Fresh, freshCall}
+use Rattle.stack.specs.Stores.{Stores, stores, rows_size, names_size, ids_size, nodes_size}
+use Rattle.making.specs.Making.{Fresh, fresh_call}
 use Rattle.meaning.specs.Calls.{Answer, matched, popped}
-use Rattle.demand.specs.Statement.{HostCall, startTag, endTag, answers, madeIn}
+use Rattle.demand.specs.Statement.{HostCall, host_start_tag, host_end_tag, answers, made_in}
 
 -- ---- What is asked.
 
 -- Whether a step and an offset hold at each of these indices.
 abbrev pub nth : (step offset : ℤ) → List ℕ → List Bool
-nth step offset indices = map (λ i. nthHolds step offset (pos i)) indices
+nth step offset indices = map (λ i. nth_holds step offset (pos i)) indices
 
 -- Whether a test of the attribute `a`, with this operator, case byte and operand, holds of each of these values.
 abbrev pub compared : Operator → (case : ℕ) → (operand : List ℕ) → List (List ℕ) → List Bool
-compared operator case operand values = map (λ v. attributeHolds true (record { name = 97 ∷ []; value = v } ∷ []) (compares operator case (97 ∷ []) operand)) values
+compared operator case operand values = map (λ v. attribute_holds true (record { name = 97 ∷ []; value = v } ∷ []) (compares operator case (97 ∷ []) operand)) values
 
 -- Full-size state stores of zeros, and the machine made in them for a sheet, ESI off, with an instruction store of zeros for six nodes.
 abbrev pub zeros : Stores
-zeros = stores (replicate rowsSize 0) (replicate namesSize 0) (replicate idsSize 0) (replicate nodesSize 0)
+zeros = stores (replicate rows_size 0) (replicate names_size 0) (replicate ids_size 0) (replicate nodes_size 0)
 
 abbrev pub made : List ℕ → Fresh
-made sheet = freshCall sheet false (replicate 48 0) zeros
+made sheet = fresh_call sheet false (replicate 48 0) zeros
 
 -- The letters of these instructions: each one's row begins with its record's place, and the record's one test is for a name of one letter, 13 bytes on.
 abbrev pub letters_at : (sheet : List ℕ) → List ℕ → List ℕ
@@ -33,7 +33,7 @@ letters_at sheet places = map (λ a. get_or sheet (get_or (made sheet).program (
 
 -- The machine's answers to a list of calls.
 abbrev pub answered : (sheet : List ℕ) → List HostCall → List (Answer (List ℕ))
-answered sheet calls = answers sheet (made sheet).program (madeIn zeros (made sheet)) calls
+answered sheet calls = answers sheet (made sheet).program (made_in zeros (made sheet)) calls
 
 -- The sheet without a node.
 unfoldable pub p11 : List ℕ
@@ -58,7 +58,7 @@ abbrev pub p : List ℕ
 p = 112 ∷ []
 
 abbrev pub html : List ℕ → HostCall
-html name = startTag 0 name
+html name = host_start_tag 0 name
 
 abbrev pub buffer : List ℕ
 buffer = replicate 4 0
@@ -72,7 +72,7 @@ id_3 = 8 ∷ 0 ∷ []
 
 -- ---- THE LIST.
 
-pub record Marked-examples : Type 0 where
+pub record MarkedExamples : Type 0 where
   -- 2n + 1: the odd ones
   pub P1 : nth (pos 2) (pos 1) (1 ∷ 3 ∷ 5 ∷ 2 ∷ []) ≡ true ∷ true ∷ true ∷ false ∷ []
   -- -n + 3: the first three
@@ -94,6 +94,6 @@ pub record Marked-examples : Type 0 where
   -- two roots, the first with a child tree, which has a descendant tree, and a descendant tree of its own: siblings are neighbours, and a child's trees come before a descendant's
   pub P10 : letters_at p10 (0 ∷ 1 ∷ 2 ∷ 3 ∷ 4 ∷ []) ≡ 97 ∷ 98 ∷ 99 ∷ 102 ∷ 103 ∷ []
   -- an end tag that nothing open bears closes nothing, one that the outer bears closes both
-  pub P11 : answered p11 (html div ∷ html span ∷ endTag p buffer ∷ endTag div buffer ∷ []) ≡ matched none true ∷ matched none true ∷ popped [] ∷ popped (none ∷ none ∷ []) ∷ []
+  pub P11 : answered p11 (html div ∷ html span ∷ host_end_tag p buffer ∷ host_end_tag div buffer ∷ []) ≡ matched none true ∷ matched none true ∷ popped [] ∷ popped (none ∷ none ∷ []) ∷ []
   -- a child is matched, a grandchild is not
   pub P12 : map (answered p12) ((html div ∷ html p ∷ []) ∷ (html div ∷ html span ∷ html p ∷ []) ∷ []) ≡ (matched none true ∷ matched id_3 true ∷ []) ∷ (matched none true ∷ matched none true ∷ matched none true ∷ []) ∷ []

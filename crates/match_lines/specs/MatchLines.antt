@@ -4,20 +4,20 @@ use Rattle.id_sets.specs.Ids.{ids_of}
 use Rattle.text.specs.Text.{decimal}
 
 -- Each id after a space.
-unfoldable pub idsText : List ℕ → List ℕ
-idsText [] = []
-idsText (id ∷ ids) = 32 ∷ (decimal id ++ idsText ids)
+unfoldable pub ids_text : List ℕ → List ℕ
+ids_text [] = []
+ids_text (id ∷ ids) = 32 ∷ (decimal id ++ ids_text ids)
 
 -- `match`
-abbrev pub matchWord : List ℕ
-matchWord = 109 ∷ (97 ∷ (116 ∷ (99 ∷ (104 ∷ []))))
+abbrev pub match_word : List ℕ
+match_word = 109 ∷ (97 ∷ (116 ∷ (99 ∷ (104 ∷ []))))
 
 -- ` content` or ` void`, and the line's end
-unfoldable pub contentWord : Bool → List ℕ
-contentWord content =
+unfoldable pub content_word : Bool → List ℕ
+content_word content =
     cond content (32 ∷ (99 ∷ (111 ∷ (110 ∷ (116 ∷ (101 ∷ (110 ∷ (116 ∷ (10 ∷ [])))))))))
     (32 ∷ (118 ∷ (111 ∷ (105 ∷ (100 ∷ (10 ∷ []))))))
 
 -- `match`, the ids of the set in rising order, then `content` or `void`.
-unfoldable pub matchLine : (words : List ℕ) → (content : Bool) → List ℕ
-matchLine words content = (matchWord ++ idsText (ids_of words)) ++ contentWord content
+unfoldable pub match_line : (words : List ℕ) → (content : Bool) → List ℕ
+match_line words content = (match_word ++ ids_text (ids_of words)) ++ content_word content

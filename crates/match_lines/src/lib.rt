@@ -4,7 +4,7 @@
 ghost use Rattle.std.specs.Prelude.{◌≡◌, ◌+◌, ◌*◌, ◌≤◌, length};
 ghost use Rattle.id_sets.specs.Ids.{ids_of};
 ghost use Rattle.text.specs.Text.{Wrote};
-ghost use Rattle.match_lines.specs.MatchLines.{idsText, matchLine};
+ghost use Rattle.match_lines.specs.MatchLines.{ids_text, match_line};
 
 use cells::put8;
 use id_sets::{Next, next_id};
@@ -13,7 +13,7 @@ use text::{put_decimal, put_text};
 // Each id of the set after a space, in rising order.
 pub fn put_ids(out: &mut [u8], at: usize, words: &[u64]) -> usize
     requires { at ≤ 4294967400 }
-    ensures wrote { Wrote out.old at (idsText (ids_of words.now)) result out.new }
+    ensures wrote { Wrote out.old at (ids_text (ids_of words.now)) result out.new }
     ensures upper_bound { (result ≤ at + 1344 * length words.now) × (result ≤ at + 1376256) }
 {
     let mut next = at;
@@ -33,7 +33,7 @@ pub fn put_ids(out: &mut [u8], at: usize, words: &[u64]) -> usize
 // `match`, the ids, then `content` or `void`.
 pub fn put_match(out: &mut [u8], at: usize, words: &[u64], content: bool) -> usize
     requires { at ≤ 4294967296 }
-    ensures wrote { Wrote out.old at (matchLine words.now content) result out.new }
+    ensures wrote { Wrote out.old at (match_line words.now content) result out.new }
     ensures upper_bound { result ≤ at + 14 + 1344 * length words.now }
 {
     let mut next = put_text(out, at, b"match");

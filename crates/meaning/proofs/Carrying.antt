@@ -4,7 +4,7 @@ use Rattle.std.proofs.Common.{inl, inr, ⊎_elim}
 use Rattle.meaning.specs.Lists.{◌∈◌, here, there, keep, gather, full}
 use Rattle.meaning.proofs.ListLaws.{keep-mem, mem-keep, gather-mem, mem-gather, ∈-left, ∈-right, ∈-split, join, join-mem, mem-join-old, mem-join-new}
 use Rattle.meaning.specs.Document.{Link, child, descendant, links, every-link, Place, start, after, inside, Spot, spot, reach}
-use Rattle.meaning.specs.Match.{Matches, root, hangs, Live, Way, at-root, by}
+use Rattle.meaning.specs.Match.{Matches, root, hangs, Live, Way, at_root, by}
 use Rattle.meaning.specs.Machine.{bearing, live}
 
 module _ (roots : List ℕ) (hung : Link → ℕ → List ℕ) where
@@ -107,7 +107,7 @@ module _ {E : Type 0} (roots : List ℕ) (hung : Link → ℕ → List ℕ) (hol
       from (inr (l, m, r, u, v, b)) = live-hung roots hung (bearers c) l (behind-bearers c l u (matches-hit v) (full-of (hung l m) b)) b
 
   matches-way : {n : ℕ} {s : Spot E} → Matches roots hung holds n s → Way roots hung n
-  matches-way (root h t) = at-root h
+  matches-way (root h t) = at_root h
   matches-way (hangs l a m h t) = by (matches-way m) l h
 
   -- A way leads to every live node.
@@ -115,5 +115,5 @@ module _ {E : Type 0} (roots : List ℕ) (hung : Link → ℕ → List ℕ) (hol
   live-way c n h = go ((live-iff c n).0 h)
     where
       go : Live roots hung holds n c → Way roots hung n
-      go (inl a) = at-root a
+      go (inl a) = at_root a
       go (inr (l, m, r, u, v, b)) = by (matches-way v) l b

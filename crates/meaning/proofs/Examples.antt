@@ -5,9 +5,9 @@ use Rattle.meaning.specs.Trees.{Forest, end, tree, size}
 use Rattle.meaning.specs.Layout.{layout, below}
 use Rattle.meaning.specs.Elements.{Name, same_name}
 use Rattle.meaning.specs.Tests.{Tests}
-use Rattle.meaning.specs.Calls.{Call, start-tag, end-tag, ids-asked, Answer, matched, popped, top-ids, nothing-open, refused}
+use Rattle.meaning.specs.Calls.{Call, start_tag, end_tag, ids_asked, Answer, matched, popped, top_ids, nothing_open, refused}
 use Rattle.meaning.specs.Machine.{ready, empty, run}
-use Rattle.meaning.specs.Limits.{section-2, refusals}
+use Rattle.meaning.specs.Limits.{section_2, refusals}
 use Rattle.meaning.proofs.Compiled.{compiled}
 
 abbrev hanging : {D : Type 0} → Forest D → Forest D → Link → Forest D
@@ -36,12 +36,12 @@ by_name = record {
   TagTest = Name;
   AttributeTest = Unit;
   ids = λ d. d.id ∷ [];
-  tag-tests = λ d. d.name ∷ [];
-  attribute-tests = λ d. [];
-  tag-test = λ x i j t. same_name x t.name;
-  attribute-test = λ x t a. true;
-  of-type = λ x. false;
-  not-of-type = λ x e i j k t. refl;
+  tag_tests = λ d. d.name ∷ [];
+  attribute_tests = λ d. [];
+  tag_test = λ x i j t. same_name x t.name;
+  attribute_test = λ x t a. true;
+  of_type = λ x. false;
+  not_of_type = λ x e i j k t. refl;
 }
 
 abbrev div : Name
@@ -53,20 +53,20 @@ p = 112 ∷ []
 abbrev span : Name
 span = 115 ∷ 112 ∷ 97 ∷ 110 ∷ []
 
-abbrev start-html : Name → Call Unit
-start-html x = start-tag (record { name = x; namespace = 0; void = false })
+abbrev start_html : Name → Call Unit
+start_html x = start_tag (record { name = x; namespace = 0; void = false })
 
 abbrev answers : Forest Named → List (Call Unit) → List (Answer (List ℕ))
-answers f xs = run (compiled by_name f) (refusals section-2 (λ a. false)) (ready empty) xs
+answers f xs = run (compiled by_name f) (refusals section_2 (λ a. false)) (ready empty) xs
 
 -- `div` open, then `span`: `</p>` pops none, `</div>` pops two.
-P11 : answers end (start-html div ∷ start-html span ∷ end-tag p 4 ∷ end-tag div 4 ∷ []) ≡ matched [] true ∷ matched [] true ∷ popped [] ∷ popped ([] ∷ [] ∷ []) ∷ []
+P11 : answers end (start_html div ∷ start_html span ∷ end_tag p 4 ∷ end_tag div 4 ∷ []) ≡ matched [] true ∷ matched [] true ∷ popped [] ∷ popped ([] ∷ [] ∷ []) ∷ []
 unfolding size below
 P11 = refl
 
 -- `div > p` with id 3, its `div` with id 1: `p` in `div` yes; `p` in `span` in `div` no.
 P12 : answers (tree (record { name = div; id = 1 }) (hanging (leaf (record { name = p; id = 3 })) end) end)
-    (ids-asked ∷ start-html div ∷ start-html p ∷ ids-asked ∷ end-tag p 1 ∷ end-tag p 2 ∷ start-html span ∷ start-html p ∷ end-tag div 6 ∷ [])
-    ≡ nothing-open ∷ matched (1 ∷ []) true ∷ matched (3 ∷ []) true ∷ top-ids (3 ∷ []) ∷ refused 29 ∷ popped ((3 ∷ []) ∷ []) ∷ matched [] true ∷ matched [] true ∷ popped ((1 ∷ []) ∷ [] ∷ [] ∷ []) ∷ []
+    (ids_asked ∷ start_html div ∷ start_html p ∷ ids_asked ∷ end_tag p 1 ∷ end_tag p 2 ∷ start_html span ∷ start_html p ∷ end_tag div 6 ∷ [])
+    ≡ nothing_open ∷ matched (1 ∷ []) true ∷ matched (3 ∷ []) true ∷ top_ids (3 ∷ []) ∷ refused 29 ∷ popped ((3 ∷ []) ∷ []) ∷ matched [] true ∷ matched [] true ∷ popped ((1 ∷ []) ∷ [] ∷ [] ∷ []) ∷ []
 unfolding size below
 P12 = refl

@@ -4,7 +4,7 @@ use Rattle.std.proofs.Math.Path.{refl}
 use Rattle.std.proofs.Common.{ap, ◌∙◌, length-append, arith, add-suc}
 use mathlib.Core.List.{List, [], ◌∷◌, ◌++◌}
 use Rattle.std.proofs.Math.Nat.{add-zero, suc-add}
-use Rattle.meaning.specs.Document.{child, descendant, by-link}
+use Rattle.meaning.specs.Document.{child, descendant, by_link}
 use Rattle.meaning.specs.Trees.{Forest, end, tree, width, size}
 use Rattle.meaning.specs.Layout.{Instruction, begins, ends, ranges, block, below, layout, Stands, Laid}
 
@@ -64,7 +64,7 @@ module _ {D : Type 0} where
         record { says = d; range = ranges m k },
         g.0,
         refl,
-        (λ l. (refl, laid-step p (begins m k l) (k l) (laid_out p (k l)) (by-link (λ x. Stands p (begins m k x) (layout (begins m k x) (k x))) h₁ h₂ l))),
+        (λ l. (refl, laid-step p (begins m k l) (k l) (laid_out p (k l)) (by_link (λ x. Stands p (begins m k x) (layout (begins m k x) (k x))) h₁ h₂ l))),
         laid_out p f (suc a) (ends m k) g.1 (rw length-layout at r₂),
       )
 

@@ -3,7 +3,7 @@ use Rattle.std.specs.Prelude.{◌≡◌, refl, ◌↔◌, ◌⊎◌, Bool, true,
 use Rattle.std.proofs.Common.{sym, ap, ap₂, inl, inr, ⊎_elim, T_not, eqb→eq, eq-eqb, arith}
 use mathlib.Core.List.{List, [], ◌∷◌, ◌++◌, map, reverse, reverse_aux}
 use Rattle.std.proofs.Math.Dec.{not_T, eqb_refl}
-use Rattle.meaning.specs.Lists.{◌∈◌, here, there, Distinct, put_if, keep, some, every, gather, Pairs, no-pair, pair, has, minus, Rising}
+use Rattle.meaning.specs.Lists.{◌∈◌, here, there, Distinct, put_if, keep, some, every, gather, Pairs, no_pair, pair, has, minus, Rising}
 
 module _ {A : Type 0} where
   pub some-mem : (p : A → Bool) (xs : List A) → T (some p xs) → (x : A) × (x ∈ xs) × T (p x)
@@ -126,28 +126,28 @@ module _ {A B : Type 0} {R : A → B → Type 0} where
   pub pair-right : {xs : List A} {ys : List B} → Pairs R xs ys → (a : A) → a ∈ xs → (b : B) × (b ∈ ys) × R a b
   pair-right (pair {b = b} r p) a (here e) = (b, here refl, rw e r)
   pair-right (pair r p) a (there h) = let (b, m, q) = pair-right p a h in (b, there m, q)
-  pair-right no-pair a x4 = elim x4 [ ]
+  pair-right no_pair a x4 = elim x4 [ ]
 
   pub pair_left : {xs : List A} {ys : List B} → Pairs R xs ys → (b : B) → b ∈ ys → (a : A) × (a ∈ xs) × R a b
   pair_left (pair {a = a} r p) b (here e) = (a, here refl, rw e r)
   pair_left (pair r p) b (there h) = let (a, m, q) = pair_left p b h in (a, there m, q)
-  pair_left no-pair b x4 = elim x4 [ ]
+  pair_left no_pair b x4 = elim x4 [ ]
 
   pub pairs-map : (g : B → A) → ((b : B) → R (g b) b) → (ys : List B) → Pairs R (map g ys) ys
-  pairs-map g h [] = no-pair
+  pairs-map g h [] = no_pair
   pairs-map g h (y ∷ ys) = pair (h y) (pairs-map g h ys)
 
   pub pairs-take : (n : ℕ) {xs : List A} {ys : List B} → Pairs R xs ys → Pairs R (take n xs) (take n ys)
-  pairs-take zero p = no-pair
-  pairs-take (suc n) no-pair = no-pair
+  pairs-take zero p = no_pair
+  pairs-take (suc n) no_pair = no_pair
   pairs-take (suc n) (pair r p) = pair r (pairs-take n p)
 
   pairs_onto : {xs us : List A} {ys vs : List B} → Pairs R xs ys → Pairs R us vs → Pairs R (reverse_aux xs us) (reverse_aux ys vs)
-  pairs_onto no-pair q = q
+  pairs_onto no_pair q = q
   pairs_onto (pair r p) q = pairs_onto p (pair r q)
 
   pub pairs-reverse : {xs : List A} {ys : List B} → Pairs R xs ys → Pairs R (reverse xs) (reverse ys)
-  pairs-reverse p = pairs_onto p no-pair
+  pairs-reverse p = pairs_onto p no_pair
 
 -- ---- Numbers.
 pub has-mem : (x : ℕ) (ys : List ℕ) → T (has x ys) → x ∈ ys

@@ -4,7 +4,7 @@ use Rattle.std.proofs.Common.{sym, ap, ◌∙◌, inl, inr, eqb→eq, eq-eqb}
 use Rattle.std.proofs.lemmas.Bool.{false≢true}
 use Rattle.meaning.specs.Lists.{◌∈◌, here, there}
 use Rattle.meaning.specs.Elements.{Placed, Name, same_name, Tag, content, html, name_of, Closes, none, through}
-use Rattle.meaning.specs.Machine.{Counter, times-of, count-name, known, up_to, nearest}
+use Rattle.meaning.specs.Machine.{Counter, times_of, count_name, known, up_to, nearest}
 
 pub same-name-eq : (x y : Name) → same_name x y ≡ true → x ≡ y
 same-name-eq [] [] h = refl
@@ -25,11 +25,11 @@ pub same_names : (x y : Name) → (same_name x y ≡ true) ↔ (x ≡ y)
 same_names x y = (same-name-eq x y, λ e. ap (same_name x) (sym e) ∙ same-name-self x)
 
 -- A name is counted once more, and no other.
-pub times-count : (x y : Name) (r : List Counter) → times-of x (count-name y r) ≡ cond (same_name x y) (suc (times-of x r)) (times-of x r)
+pub times-count : (x y : Name) (r : List Counter) → times_of x (count_name y r) ≡ cond (same_name x y) (suc (times_of x r)) (times_of x r)
 times-count x y [] = refl
 times-count x y (z ∷ zs) = push (same_name y z.name) ∙ go (same_name y z.name) refl (same_name x y) refl (same_name x z.name) refl (times-count x y zs)
   where
-    push : (b : Bool) → times-of x (cond b (record { name = z.name; times = suc z.times } ∷ zs) (z ∷ count-name y zs)) ≡ cond b (cond (same_name x z.name) (suc z.times) (times-of x zs)) (cond (same_name x z.name) z.times (times-of x (count-name y zs)))
+    push : (b : Bool) → times_of x (cond b (record { name = z.name; times = suc z.times } ∷ zs) (z ∷ count_name y zs)) ≡ cond b (cond (same_name x z.name) (suc z.times) (times_of x zs)) (cond (same_name x z.name) z.times (times_of x (count_name y zs)))
     push true = refl
     push false = refl
 
@@ -39,8 +39,8 @@ times-count x y (z ∷ zs) = push (same_name y z.name) ∙ go (same_name y z.nam
     meet : same_name x y ≡ true → same_name x z.name ≡ true → same_name y z.name ≡ true
     meet e e' = let p = same-name-eq x y e in let q = same-name-eq x z.name e' in rw (← p, ← q) (same-name-self x)
 
-    go : (b : Bool) → same_name y z.name ≡ b → (p : Bool) → same_name x y ≡ p → (q : Bool) → same_name x z.name ≡ q → times-of x (count-name y zs) ≡ cond p (suc (times-of x zs)) (times-of x zs)
-        → cond b (cond q (suc z.times) (times-of x zs)) (cond q z.times (times-of x (count-name y zs))) ≡ cond p (suc (cond q z.times (times-of x zs))) (cond q z.times (times-of x zs))
+    go : (b : Bool) → same_name y z.name ≡ b → (p : Bool) → same_name x y ≡ p → (q : Bool) → same_name x z.name ≡ q → times_of x (count_name y zs) ≡ cond p (suc (times_of x zs)) (times_of x zs)
+        → cond b (cond q (suc z.times) (times_of x zs)) (cond q z.times (times_of x (count_name y zs))) ≡ cond p (suc (cond q z.times (times_of x zs))) (cond q z.times (times_of x zs))
     go true eb true ep true eq ih = refl
     go true eb true ep false eq ih = absurd (false≢true (sym eq ∙ alike eb ∙ ep))
     go true eb false ep true eq ih = absurd (false≢true (sym ep ∙ sym (alike eb) ∙ eq))
@@ -50,19 +50,19 @@ times-count x y (z ∷ zs) = push (same_name y z.name) ∙ go (same_name y z.nam
     go false eb false ep true eq ih = refl
     go false eb false ep false eq ih = ih
 
-pub known-count : (x y : Name) (r : List Counter) → known x (count-name y r) ≡ (same_name x y || known x r)
+pub known-count : (x y : Name) (r : List Counter) → known x (count_name y r) ≡ (same_name x y || known x r)
 known-count x y [] = refl
 known-count x y (z ∷ zs) = push (same_name y z.name) ∙ go (same_name y z.name) refl (same_name x y) refl (same_name x z.name) refl (known-count x y zs)
   where
-    push : (b : Bool) → known x (cond b (record { name = z.name; times = suc z.times } ∷ zs) (z ∷ count-name y zs)) ≡ cond b (same_name x z.name || known x zs) (same_name x z.name || known x (count-name y zs))
+    push : (b : Bool) → known x (cond b (record { name = z.name; times = suc z.times } ∷ zs) (z ∷ count_name y zs)) ≡ cond b (same_name x z.name || known x zs) (same_name x z.name || known x (count_name y zs))
     push true = refl
     push false = refl
 
     alike : same_name y z.name ≡ true → same_name x z.name ≡ same_name x y
     alike e = ap (same_name x) (sym (same-name-eq y z.name e))
 
-    go : (b : Bool) → same_name y z.name ≡ b → (p : Bool) → same_name x y ≡ p → (q : Bool) → same_name x z.name ≡ q → known x (count-name y zs) ≡ (p || known x zs)
-        → cond b (q || known x zs) (q || known x (count-name y zs)) ≡ (p || (q || known x zs))
+    go : (b : Bool) → same_name y z.name ≡ b → (p : Bool) → same_name x y ≡ p → (q : Bool) → same_name x z.name ≡ q → known x (count_name y zs) ≡ (p || known x zs)
+        → cond b (q || known x zs) (q || known x (count_name y zs)) ≡ (p || (q || known x zs))
     go true eb true ep true eq ih = refl
     go true eb true ep false eq ih = absurd (false≢true (sym eq ∙ alike eb ∙ ep))
     go true eb false ep q eq ih = refl
@@ -72,7 +72,7 @@ known-count x y (z ∷ zs) = push (same_name y z.name) ∙ go (same_name y z.nam
     go false eb false ep false eq ih = ih
 
 -- As many names are known as before, or one more if the name is new.
-pub length-count : (y : Name) (r : List Counter) → length (count-name y r) ≡ cond (not (known y r)) (suc (length r)) (length r)
+pub length-count : (y : Name) (r : List Counter) → length (count_name y r) ≡ cond (not (known y r)) (suc (length r)) (length r)
 length-count y [] = refl
 length-count y (z ∷ zs) = go (same_name y z.name) (length-count y zs)
   where
@@ -80,10 +80,10 @@ length-count y (z ∷ zs) = go (same_name y z.name) (length-count y zs)
     later true m n e = ap suc e
     later false m n e = ap suc e
 
-    go : (b : Bool) → length (count-name y zs) ≡ cond (not (known y zs)) (suc (length zs)) (length zs)
-        → length (cond b (record { name = z.name; times = suc z.times } ∷ zs) (z ∷ count-name y zs)) ≡ cond (not (b || known y zs)) (suc (suc (length zs))) (suc (length zs))
+    go : (b : Bool) → length (count_name y zs) ≡ cond (not (known y zs)) (suc (length zs)) (length zs)
+        → length (cond b (record { name = z.name; times = suc z.times } ∷ zs) (z ∷ count_name y zs)) ≡ cond (not (b || known y zs)) (suc (suc (length zs))) (suc (length zs))
     go true ih = refl
-    go false ih = later (not (known y zs)) (length (count-name y zs)) (length zs) ih
+    go false ih = later (not (known y zs)) (length (count_name y zs)) (length zs) ih
 
 -- The pop rule, as the machine computes it, is the pop rule as it is said.
 module _ {A : Type 0} (x : Name) where
@@ -153,7 +153,7 @@ module _ {A : Type 0} (x : Name) where
   closes-one all ss rs c d = closes-nearest all ss c ∙ sym (closes-nearest all rs d)
 
 -- The content rule as 01 says it: no content is for void HTML, and for SVG and MathML that are self-closing.
-pub content-none : (t : Tag) (self-closing : Bool) → (content t self-closing ≡ false) ↔ (((html t ≡ true) × (t.void ≡ true)) ⊎ ((html t ≡ false) × (self-closing ≡ true)))
+pub content-none : (t : Tag) (self_closing : Bool) → (content t self_closing ≡ false) ↔ (((html t ≡ true) × (t.void ≡ true)) ⊎ ((html t ≡ false) × (self_closing ≡ true)))
 content-none t b = (to (html t) t.void b, from (html t) t.void b)
   where
     to : (h v b : Bool) → cond h (not v) (not b) ≡ false → ((h ≡ true) × (v ≡ true)) ⊎ ((h ≡ false) × (b ≡ true))

@@ -4,19 +4,19 @@ use Rattle.std.specs.Prelude.{List, [], ◌∷◌, Bool, eqb, ℕ}
 use Rattle.meaning.specs.Lists.{◌∈◌, Distinct, keep, gather, full}
 use Rattle.meaning.proofs.ListLaws.{mem-some, keep-mem, gather-mem, distinct-keep, distinct-cat, distinct-gather, join-mem, distinct-join}
 use Rattle.meaning.specs.Document.{Link, child, descendant, links, Place, start, after, inside, Spot, spot}
-use Rattle.meaning.specs.Match.{Way, at-root, by, TreeShaped}
+use Rattle.meaning.specs.Match.{Way, at_root, by, TreeShaped}
 use Rattle.meaning.specs.Machine.{live}
 use Rattle.meaning.proofs.Carrying.{live-cases, past, into, bearers, hits}
 
-abbrev link-number : Link → ℕ
-link-number child = 0
-link-number descendant = 1
+abbrev link_number : Link → ℕ
+link_number child = 0
+link_number descendant = 1
 
-abbrev same-link : Link → Link → Bool
-same-link l m = eqb (link-number l) (link-number m)
+abbrev same_link : Link → Link → Bool
+same_link l m = eqb (link_number l) (link_number m)
 
 distinct-links : Distinct links
-distinct-links = ((λ h. mem-some (same-link child) (descendant ∷ []) h tt), ((λ h. mem-some (same-link descendant) [] h tt), tt))
+distinct-links = ((λ h. mem-some (same_link child) (descendant ∷ []) h tt), ((λ h. mem-some (same_link descendant) [] h tt), tt))
 
 module _ {E : Type 0} (roots : List ℕ) (hung : Link → ℕ → List ℕ) (trees : TreeShaped roots hung) (holds : ℕ → Spot E → Bool) where
   -- Nodes, each once, to which ways lead.
@@ -25,9 +25,9 @@ module _ {E : Type 0} (roots : List ℕ) (hung : Link → ℕ → List ℕ) (tre
 
   live-sound : (f : Link → List ℕ) → ((l : Link) → Sound (f l)) → Sound (live roots hung f)
   live-sound f s = (
-    distinct-cat roots (gather (λ l. gather (hung l) (f l)) links) trees.roots-once
+    distinct-cat roots (gather (λ l. gather (hung l) (f l)) links) trees.roots_once
         (distinct-gather (λ l. gather (hung l) (f l)) links distinct-links
-        (λ l _. distinct-gather (hung l) (f l) (s l).0 (λ m a. trees.hung-once ((s l).1 m a) l) (λ m k b a a' h h'. (trees.one_parent ((s l).1 m a) ((s l).1 k a') l l h h').1))
+        (λ l _. distinct-gather (hung l) (f l) (s l).0 (λ m a. trees.hung_once ((s l).1 m a) l) (λ m k b a a' h h'. (trees.one_parent ((s l).1 m a) ((s l).1 k a') l l h h').1))
         (λ l j b _ _ h h'.
         let (m, a, x) = gather-mem (hung l) (f l) h in
         let (k, a', x') = gather-mem (hung j) (f j) h' in
@@ -35,8 +35,8 @@ module _ {E : Type 0} (roots : List ℕ) (hung : Link → ℕ → List ℕ) (tre
         (λ n a b.
         let (l, _, h) = gather-mem (λ l. gather (hung l) (f l)) links b in
         let (m, k, x) = gather-mem (hung l) (f l) h in
-        trees.no-root ((s l).1 m k) l x a),
-    λ n h. ⊎_elim at-root (λ (l, m, a, b). by ((s l).1 m a) l b) (live-cases roots hung f h),
+        trees.no_root ((s l).1 m k) l x a),
+    λ n h. ⊎_elim at_root (λ (l, m, a, b). by ((s l).1 m a) l b) (live-cases roots hung f h),
   )
 
   keep-sound : (p : ℕ → Bool) (ns : List ℕ) → Sound ns → Sound (keep p ns)

@@ -5,15 +5,15 @@ use Rattle.std.proofs.Math.Logic.{⊎_elim}
 use Rattle.std.proofs.Math.Option.{some}
 use Rattle.std.proofs.lemmas.Bool.{false≢true}
 use Rattle.meaning.specs.Lists as lists
-use Rattle.meaning.specs.Lists.{◌∈◌, here, there, every, full, Pairs, no-pair, pair}
+use Rattle.meaning.specs.Lists.{◌∈◌, here, there, every, full, Pairs, no_pair, pair}
 use Rattle.meaning.proofs.ListLaws.{∈-split}
 use Rattle.meaning.specs.Document.{Link, child, descendant}
-use Rattle.meaning.specs.Trees.{Forest, end, tree, Node, nodes, width, some-node}
+use Rattle.meaning.specs.Trees.{Forest, end, tree, Node, nodes, width, some_node}
 use Rattle.meaning.specs.Layout.{Instruction, layout, block, below, begins, ends, fetch, Laid}
 use Rattle.meaning.proofs.LayoutLaws.{layout-laid}
 use Rattle.meaning.specs.Match.{Way, TreeShaped}
 use Rattle.meaning.specs.Elements.{Tag}
-use Rattle.meaning.specs.Tests.{Tests, of-type-tested}
+use Rattle.meaning.specs.Tests.{Tests, of_type_tested}
 use Rattle.meaning.specs.Calls.{Program}
 use Rattle.meaning.specs.Carries.{Carries}
 use Rattle.meaning.proofs.Spans.{span}
@@ -22,24 +22,24 @@ use Rattle.meaning.proofs.Shape.{way-whole, laid-shaped}
 pub record Reads {A : Type 0} (Q : Tests A) (f : Forest Q.D) (P : Program A) : Type 0 where
   pub roots : P.roots ≡ span 0 (width f)
   pub hung : (a : ℕ) (i : Instruction Q.D) → fetch (layout 0 f) a ≡ some i → (l : Link) → P.hung l a ≡ span (i.range l).first (i.range l).count
-  pub tag-tests : (a : ℕ) (i : Instruction Q.D) → fetch (layout 0 f) a ≡ some i → (j k : ℕ) (t : Tag) → P.tag-tests a j k t ≡ every (λ x. Q.tag-test x j k t) (Q.tag-tests i.says)
-  pub attribute-tested : (a : ℕ) (i : Instruction Q.D) → fetch (layout 0 f) a ≡ some i → P.attribute-tested a ≡ full (Q.attribute-tests i.says)
-  pub attribute-tests : (a : ℕ) (i : Instruction Q.D) → fetch (layout 0 f) a ≡ some i → (t : Tag) (g : A) → P.attribute-tests a t g ≡ every (λ x. Q.attribute-test x t g) (Q.attribute-tests i.says)
+  pub tag_tests : (a : ℕ) (i : Instruction Q.D) → fetch (layout 0 f) a ≡ some i → (j k : ℕ) (t : Tag) → P.tag_tests a j k t ≡ every (λ x. Q.tag_test x j k t) (Q.tag_tests i.says)
+  pub attribute_tested : (a : ℕ) (i : Instruction Q.D) → fetch (layout 0 f) a ≡ some i → P.attribute_tested a ≡ full (Q.attribute_tests i.says)
+  pub attribute_tests : (a : ℕ) (i : Instruction Q.D) → fetch (layout 0 f) a ≡ some i → (t : Tag) (g : A) → P.attribute_tests a t g ≡ every (λ x. Q.attribute_test x t g) (Q.attribute_tests i.says)
   pub ids : (a : ℕ) (i : Instruction Q.D) → fetch (layout 0 f) a ≡ some i → P.ids a ≡ Q.ids i.says
-  pub types : P.types-counted ≡ some-node (of-type-tested Q) f
+  pub types : P.types_counted ≡ some_node (of_type_tested Q) f
 
 module _ {D : Type 0} (f : Forest D) where
   -- The address a holds the node n.
   pub record Holds (a : ℕ) (n : Node D) : Type 0 where
     pub instruction : Instruction D
-    pub there-is : fetch (layout 0 f) a ≡ some instruction
+    pub there_is : fetch (layout 0 f) a ≡ some instruction
     pub same : instruction.says ≡ n.says
     pub below : (l : Link) → ((instruction.range l).count ≡ width (n.below l)) × Laid (layout 0 f) (instruction.range l).first (n.below l)
 
   laid-pairs : (g : Forest D) (a : ℕ) → Laid (layout 0 f) a g → Pairs Holds (span a (width g)) (nodes g)
   unfolding Laid
-  laid-pairs end a h = no-pair
-  laid-pairs (tree d k g) a (i, e, s, ks, r) = pair (record { instruction = i; there-is = e; same = s; below = ks }) (laid-pairs g (suc a) r)
+  laid-pairs end a h = no_pair
+  laid-pairs (tree d k g) a (i, e, s, ks, r) = pair (record { instruction = i; there_is = e; same = s; below = ks }) (laid-pairs g (suc a) r)
 
 module _ {A : Type 0} (Q : Tests A) (f : Forest Q.D) (P : Program A) (reads : Reads Q f P) where
   pub reads-shaped : TreeShaped P.roots P.hung
@@ -48,13 +48,13 @@ module _ {A : Type 0} (Q : Tests A) (f : Forest Q.D) (P : Program A) (reads : Re
   pub reads-carries : Carries Q f P
   reads-carries = record {
     Holds = Holds f;
-    tree-shaped = reads-shaped;
+    tree_shaped = reads-shaped;
     roots = rw reads.roots (laid-pairs f f 0 (layout-laid f));
-    hangs = λ a n h l. rw (reads.hung a h.instruction h.there-is l, (h.below l).0) (laid-pairs f (n.below l) (h.instruction.range l).first (h.below l).1);
-    tag-tests = λ a n h i j t. rw (← h.same) (reads.tag-tests a h.instruction h.there-is i j t);
-    attribute-tested = λ a n h. rw (← h.same) (reads.attribute-tested a h.instruction h.there-is);
-    attribute-tests = λ a n h t g. rw (← h.same) (reads.attribute-tests a h.instruction h.there-is t g);
-    ids = λ a n h. rw (← h.same) (reads.ids a h.instruction h.there-is);
+    hangs = λ a n h l. rw (reads.hung a h.instruction h.there_is l, (h.below l).0) (laid-pairs f (n.below l) (h.instruction.range l).first (h.below l).1);
+    tag_tests = λ a n h i j t. rw (← h.same) (reads.tag_tests a h.instruction h.there_is i j t);
+    attribute_tested = λ a n h. rw (← h.same) (reads.attribute_tested a h.instruction h.there_is);
+    attribute_tests = λ a n h t g. rw (← h.same) (reads.attribute_tests a h.instruction h.there_is t g);
+    ids = λ a n h. rw (← h.same) (reads.ids a h.instruction h.there_is);
     types = reads.types;
   }
 
@@ -70,39 +70,39 @@ neither false b e = (refl, e)
 
 -- What no node of a forest says, no instruction of its layout says.
 module _ {D : Type 0} (p : D → Bool) where
-  block-says : (m : ℕ) (f : Forest D) (i : Instruction D) → some-node p f ≡ false → i ∈ block m f → p i.says ≡ false
+  block-says : (m : ℕ) (f : Forest D) (i : Instruction D) → some_node p f ≡ false → i ∈ block m f → p i.says ≡ false
   block-says m (tree d k f) i e (here q) = rw q (neither (p d) _ e).0
-  block-says m (tree d k f) i e (there h) = block-says (ends m k) f i (neither (some-node p (k descendant)) _ (neither (some-node p (k child)) _ (neither (p d) _ e).1).1).1 h
+  block-says m (tree d k f) i e (there h) = block-says (ends m k) f i (neither (some_node p (k descendant)) _ (neither (some_node p (k child)) _ (neither (p d) _ e).1).1).1 h
   block-says m end i e x'' = elim x'' [ ]
 
-  layout-step : (m : ℕ) (f : Forest D) (i : Instruction D) → some-node p f ≡ false → (i ∈ below m f → p i.says ≡ false) → i ∈ (block m f ++ below m f) → p i.says ≡ false
+  layout-step : (m : ℕ) (f : Forest D) (i : Instruction D) → some_node p f ≡ false → (i ∈ below m f → p i.says ≡ false) → i ∈ (block m f ++ below m f) → p i.says ≡ false
   layout-step m f i e ih h = ⊎_elim (block-says m f i e) ih (∈-split (block m f) h)
 
-  below-says : (m : ℕ) (f : Forest D) (i : Instruction D) → some-node p f ≡ false → i ∈ below m f → p i.says ≡ false
+  below-says : (m : ℕ) (f : Forest D) (i : Instruction D) → some_node p f ≡ false → i ∈ below m f → p i.says ≡ false
   unfolding below
   below-says m (tree d k f) i e h =
       let (_, e₁) = neither (p d) _ e in
-      let (e₂, e₃) = neither (some-node p (k child)) _ e₁ in
-      let (e₄, e₅) = neither (some-node p (k descendant)) _ e₃ in
+      let (e₂, e₃) = neither (some_node p (k child)) _ e₁ in
+      let (e₄, e₅) = neither (some_node p (k descendant)) _ e₃ in
       ⊎_elim (layout-step _ (k child) i e₂ (below-says _ (k child) i e₂))
       (λ r. ⊎_elim (layout-step _ (k descendant) i e₄ (below-says _ (k descendant) i e₄)) (below-says (ends m k) f i e₅) (∈-split (layout (begins m k descendant) (k descendant)) r))
       (∈-split (layout (begins m k child) (k child)) h)
   below-says m end i e h = elim h [ ]
 
-  layout-says : (f : Forest D) → some-node p f ≡ false → (a : ℕ) (i : Instruction D) → fetch (layout 0 f) a ≡ some i → p i.says ≡ false
+  layout-says : (f : Forest D) → some_node p f ≡ false → (a : ℕ) (i : Instruction D) → fetch (layout 0 f) a ≡ some i → p i.says ≡ false
   layout-says f e a i q = layout-step _ f i e (below-says _ f i e) (fetch-mem (layout 0 f) a i q)
 
-module _ {A : Type 0} (Q : Tests A) (f : Forest Q.D) (roots : List ℕ) (hung : Link → ℕ → List ℕ) (tag-tests : ℕ → ℕ → ℕ → Tag → Bool)
+module _ {A : Type 0} (Q : Tests A) (f : Forest Q.D) (roots : List ℕ) (hung : Link → ℕ → List ℕ) (tag_tests : ℕ → ℕ → ℕ → Tag → Bool)
     (roots-laid : roots ≡ span 0 (width f))
     (hung-laid : (a : ℕ) (i : Instruction Q.D) → fetch (layout 0 f) a ≡ some i → (l : Link) → hung l a ≡ span (i.range l).first (i.range l).count)
-    (tests-laid : (a : ℕ) (i : Instruction Q.D) → fetch (layout 0 f) a ≡ some i → (j k : ℕ) (t : Tag) → tag-tests a j k t ≡ every (λ x. Q.tag-test x j k t) (Q.tag-tests i.says)) where
-  untyped : (xs : List Q.TagTest) → lists.some Q.of-type xs ≡ false → (i j k : ℕ) (t : Tag) → every (λ x. Q.tag-test x i j t) xs ≡ every (λ x. Q.tag-test x i k t) xs
+    (tests-laid : (a : ℕ) (i : Instruction Q.D) → fetch (layout 0 f) a ≡ some i → (j k : ℕ) (t : Tag) → tag_tests a j k t ≡ every (λ x. Q.tag_test x j k t) (Q.tag_tests i.says)) where
+  untyped : (xs : List Q.TagTest) → lists.some Q.of_type xs ≡ false → (i j k : ℕ) (t : Tag) → every (λ x. Q.tag_test x i j t) xs ≡ every (λ x. Q.tag_test x i k t) xs
   untyped [] e i j k t = refl
-  untyped (x ∷ xs) e i j k t = let (u, v) = neither (Q.of-type x) _ e in ap₂ (λ a b. a && b) (Q.not-of-type x u i j k t) (untyped xs v i j k t)
+  untyped (x ∷ xs) e i j k t = let (u, v) = neither (Q.of_type x) _ e in ap₂ (λ a b. a && b) (Q.not_of_type x u i j k t) (untyped xs v i j k t)
 
-  pub laid-uncounted : some-node (of-type-tested Q) f ≡ false → (n : ℕ) → Way roots hung n → (i j k : ℕ) (t : Tag) → tag-tests n i j t ≡ tag-tests n i k t
+  pub laid-uncounted : some_node (of_type_tested Q) f ≡ false → (n : ℕ) → Way roots hung n → (i j k : ℕ) (t : Tag) → tag_tests n i j t ≡ tag_tests n i k t
   laid-uncounted e n way i j k t =
       let g = way-whole f roots hung roots-laid hung-laid n way in
-      tests-laid n g.instruction g.there-is i j t
-      ∙ untyped (Q.tag-tests g.instruction.says) (layout-says (of-type-tested Q) f e n g.instruction g.there-is) i j k t
-      ∙ sym (tests-laid n g.instruction g.there-is i k t)
+      tests-laid n g.instruction g.there_is i j t
+      ∙ untyped (Q.tag_tests g.instruction.says) (layout-says (of_type_tested Q) f e n g.instruction g.there_is) i j k t
+      ∙ sym (tests-laid n g.instruction g.there_is i k t)

@@ -10,7 +10,7 @@ use Rattle.meaning.specs.Document.{Link, child, descendant}
 use Rattle.meaning.specs.Trees.{Forest, end, tree, width, size}
 use Rattle.meaning.specs.Layout.{Instruction, layout, block, below, begins, ends, ranges, fetch, Stands}
 use Rattle.meaning.proofs.LayoutLaws.{stands-split, stands_self, length-block, length-below, length_three, length-layout}
-use Rattle.meaning.specs.Match.{Way, at-root, by, TreeShaped}
+use Rattle.meaning.specs.Match.{Way, at_root, by, TreeShaped}
 use Rattle.meaning.proofs.Spans.{span, distinct-span, span-mem}
 use Rattle.meaning.proofs.Owners.{own, Good, owners, layout-owned, owned-mem, fetch-below}
 
@@ -32,10 +32,10 @@ module _ {D : Type 0} (f : Forest D) (roots : List ℕ) (hung : Link → ℕ →
   root-owned a h = owned-mem (layout 0 f) (owners 0 none f) f 0 none (layout-owned f) a (rw roots-laid at h)
 
   hung-owned : (m : ℕ) → Whole m → (l : Link) (n : ℕ) → n ∈ hung l m → (fetch (owners 0 none f) n ≡ some (some (own m l))) × Whole n
-  hung-owned m g l n h = owned-mem (layout 0 f) (owners 0 none f) (g.below l) (g.instruction.range l).first (some (own m l)) (g.mine l).1 n (rw (hung-laid m g.instruction g.there-is l, (g.mine l).0) at h)
+  hung-owned m g l n h = owned-mem (layout 0 f) (owners 0 none f) (g.below l) (g.instruction.range l).first (some (own m l)) (g.mine l).1 n (rw (hung-laid m g.instruction g.there_is l, (g.mine l).0) at h)
 
   pub way-whole : (a : ℕ) → Way roots hung a → Whole a
-  way-whole a (at-root h) = (root-owned a h).1
+  way-whole a (at_root h) = (root-owned a h).1
   way-whole a (by {m = m} way l h) = (hung-owned m (way-whole m way) l a h).1
 
   root-and-owned : (n m : ℕ) (l : Link) → fetch (owners 0 none f) n ≡ some none → fetch (owners 0 none f) n ≡ some (some (own m l)) → ⊥
@@ -45,20 +45,20 @@ module _ {D : Type 0} (f : Forest D) (roots : List ℕ) (hung : Link → ℕ →
   one-owner n m k l j e e' = (cc, cc)
 
   hung-distinct : (m : ℕ) → Whole m → (l : Link) → Distinct (hung l m)
-  hung-distinct m g l = rw (hung-laid m g.instruction g.there-is l) (distinct-span (g.instruction.range l).first (g.instruction.range l).count)
+  hung-distinct m g l = rw (hung-laid m g.instruction g.there_is l) (distinct-span (g.instruction.range l).first (g.instruction.range l).count)
 
   -- Addresses form trees.
   pub laid-shaped : TreeShaped roots hung
   laid-shaped = record {
-    roots-once = rw roots-laid (distinct-span 0 (width f));
-    hung-once = λ {m} way l. hung-distinct m (way-whole m way) l;
-    no-root = λ {m} {n} way l h k. root-and-owned n m l (root-owned n k).0 (hung-owned m (way-whole m way) l n h).0;
+    roots_once = rw roots-laid (distinct-span 0 (width f));
+    hung_once = λ {m} way l. hung-distinct m (way-whole m way) l;
+    no_root = λ {m} {n} way l h k. root-and-owned n m l (root-owned n k).0 (hung-owned m (way-whole m way) l n h).0;
     one_parent = λ {m} {k} {n} v w l j h h'. one-owner n m k l j (hung-owned m (way-whole m v) l n h).0 (hung-owned k (way-whole k w) j n h').0;
   }
 
   -- They are below the number of nodes.
   pub way-below : (a : ℕ) → Way roots hung a → a < size f
-  way-below a way = let g = way-whole a way in let h = fetch-below (layout 0 f) a g.instruction g.there-is in rw length-layout at h
+  way-below a way = let g = way-whole a way in let h = fetch-below (layout 0 f) a g.instruction g.there_is in rw length-layout at h
 
   -- And to each address below that a way leads.
   ways-step : (b : ℕ) (g : Forest D) → ((a m : ℕ) → Stands (layout 0 f) a (block m g) → Stands (layout 0 f) m (below m g) → ((x : ℕ) → x ∈ span a (width g) → Way roots hung x) → (x : ℕ) → m ≤ x → x < m + length (below m g) → Way roots hung x)
@@ -85,4 +85,4 @@ module _ {D : Type 0} (f : Forest D) (roots : List ℕ) (hung : Link → ℕ →
       (before-or-not x (m + size (k child)))
 
   pub every_way : (a : ℕ) → a < size f → Way roots hung a
-  every_way a h = ways-step 0 f (ways-out f) (stands_self (layout 0 f)) (λ x m. at-root (rw roots-laid m)) a (omega arith) (omega arith)
+  every_way a h = ways-step 0 f (ways-out f) (stands_self (layout 0 f)) (λ x m. at_root (rw roots-laid m)) a (omega arith) (omega arith)

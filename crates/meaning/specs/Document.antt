@@ -16,9 +16,9 @@ every-link child = here refl
 every-link descendant = there (here refl)
 
 -- One fact for each link is a fact of every link.
-abbrev pub by-link : (P : Link → Type 0) → P child → P descendant → (l : Link) → P l
-by-link P a b child = a
-by-link P a b descendant = b
+abbrev pub by_link : (P : Link → Type 0) → P child → P descendant → (l : Link) → P l
+by_link P a b child = a
+by_link P a b descendant = b
 
 -- Where the next tag would stand: at the start of the document, right after a closed element, or first inside an open element.
 -- Such an element stood at the place that is named with it, so a place holds all open elements and all their earlier siblings.
@@ -58,8 +58,8 @@ abbrev pub position : {E : Type 0} → Place E → ℕ
 position c = suc (length (before c))
 
 -- Its position, from 1, among those siblings whose name is its own, as a test of elements tells.
-abbrev pub position-of-type : {E : Type 0} → (E → Bool) → Place E → ℕ
-position-of-type named c = suc (length (keep (λ s. named s.element) (before c)))
+abbrev pub position_of_type : {E : Type 0} → (E → Bool) → Place E → ℕ
+position_of_type named c = suc (length (keep (λ s. named s.element) (before c)))
 
 -- The place after an element: inside it if it has content, else right after it.
 abbrev pub enter : {E : Type 0} → Bool → Place E → E → Place E

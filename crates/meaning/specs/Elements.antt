@@ -1,7 +1,7 @@
 -- Tags and elements as a machine is told of them, the content rule and the pop rule (01, sections 3 and 4).
 use Rattle.std.specs.Prelude.{◌≡◌, List, [], ◌∷◌, ◌++◌, Bool, true, false, not, ◌&&◌, cond, eqb, ℕ, suc}
 use Rattle.meaning.specs.Lists.{◌∈◌, some}
-use Rattle.meaning.specs.Document.{Place, start, after, inside, Spot, before, position-of-type}
+use Rattle.meaning.specs.Document.{Place, start, after, inside, Spot, before, position_of_type}
 
 -- The bytes of a name, capitals lowered.
 abbrev pub Name : Type 0
@@ -22,7 +22,7 @@ pub record Tag : Type 0 where
 
 -- What comes with a tag's attributes; `A` is what attribute tests look at.
 pub record Given (A : Type 0) : Type 0 where
-  pub self-closing : Bool
+  pub self_closing : Bool
   pub attributes : A
 
 -- A start tag with its attributes.
@@ -46,10 +46,10 @@ html t = eqb t.namespace 0
 
 -- Content flag: HTML has content unless its name is void, whatever the self-closing mark; SVG and MathML have it unless self-closing.
 abbrev pub content : Tag → Bool → Bool
-content t self-closing = cond (html t) (not t.void) (not self-closing)
+content t self_closing = cond (html t) (not t.void) (not self_closing)
 
-abbrev pub has-content : {A : Type 0} → Element A → Bool
-has-content e = content e.tag e.given.self-closing
+abbrev pub has_content : {A : Type 0} → Element A → Bool
+has_content e = content e.tag e.given.self_closing
 
 module _ {A : Type 0} where
   -- The name of an element.
@@ -57,12 +57,12 @@ module _ {A : Type 0} where
   name_of s = s.element.tag.name
 
   -- Whether no earlier sibling at a place has a name.
-  abbrev pub new-name : Name → Where A → Bool
-  new-name x c = not (some (λ s. same_name x (name_of s)) (before c))
+  abbrev pub new_name : Name → Where A → Bool
+  new_name x c = not (some (λ s. same_name x (name_of s)) (before c))
 
   -- The position of a tag at a place among the siblings of its name; namespace plays no part (E3).
-  abbrev pub position-of-name : Name → Where A → ℕ
-  position-of-name x c = position-of-type (λ e. same_name x e.tag.name) c
+  abbrev pub position_of_name : Name → Where A → ℕ
+  position_of_name x c = position_of_type (λ e. same_name x e.tag.name) c
 
 -- The pop rule: an end tag of this name closes these of the open elements, innermost first: through the nearest of the name, or none.
 pub data Closes {A : Type 0} (x : Name) (all : List (Placed A)) : List (Placed A) → Type 0 where
@@ -72,5 +72,5 @@ pub data Closes {A : Type 0} (x : Name) (all : List (Placed A)) : List (Placed A
 -- Live pairs of name and level: one for each element, of an open level, that is the first of its name there.
 abbrev pub pairs : {A : Type 0} → Where A → ℕ
 pairs start = 0
-pairs (after c e) = cond (new-name e.tag.name c) (suc (pairs c)) (pairs c)
-pairs (inside c e) = cond (new-name e.tag.name c) (suc (pairs c)) (pairs c)
+pairs (after c e) = cond (new_name e.tag.name c) (suc (pairs c)) (pairs c)
+pairs (inside c e) = cond (new_name e.tag.name c) (suc (pairs c)) (pairs c)

@@ -46,7 +46,7 @@ module _ {A B : Type 0} (f : A → List B) where
 
 -- Two lists pair up: as long as each other, and related member by member.
 pub data Pairs {A B : Type 0} (R : A → B → Type 0) : List A → List B → Type 0 where
-  no-pair : Pairs R [] []
+  no_pair : Pairs R [] []
   pair : {a : A} {b : B} {xs : List A} {ys : List B} → R a b → Pairs R xs ys → Pairs R (a ∷ xs) (b ∷ ys)
 
 -- ---- Lists of numbers.

@@ -18,18 +18,18 @@ module _ {N E : Type 0} (roots : List N) (hung : Link → N → List N) (holds :
 module _ {N : Type 0} (roots : List N) (hung : Link → N → List N) where
   -- A way to a node: from a root, link by link.
   pub data Way : N → Type 0 where
-    at-root : {n : N} → n ∈ roots → Way n
+    at_root : {n : N} → n ∈ roots → Way n
     by : {m n : N} → Way m → (l : Link) → n ∈ hung l m → Way n
 
   module _ {S : Type 0} (compound : N → List S) where
     -- The complex selector of a way: the root's compound, then each link and the compound to which it leads.
     abbrev pub selector : {n : N} → Way n → Complex S
-    selector {n} (at-root h) = only (compound n)
+    selector {n} (at_root h) = only (compound n)
     selector {n} (by way l h) = then (selector way) l (compound n)
 
   -- The nodes form trees: a node is a root, or hangs from one node by one link; and it stands there once.
   pub record TreeShaped : Type 0 where
-    pub roots-once : Distinct roots
-    pub hung-once : {m : N} → Way m → (l : Link) → Distinct (hung l m)
-    pub no-root : {m n : N} → Way m → (l : Link) → n ∈ hung l m → ¬ (n ∈ roots)
+    pub roots_once : Distinct roots
+    pub hung_once : {m : N} → Way m → (l : Link) → Distinct (hung l m)
+    pub no_root : {m n : N} → Way m → (l : Link) → n ∈ hung l m → ¬ (n ∈ roots)
     pub one_parent : {m k n : N} → Way m → Way k → (l j : Link) → n ∈ hung l m → n ∈ hung j k → (l ≡ j) × (m ≡ k)

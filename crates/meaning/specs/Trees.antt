@@ -33,9 +33,9 @@ module _ {D : Type 0} where
   size (tree d k f) = suc (size (k child) + size (k descendant) + size f)
 
   -- Some node of the forest says what passes a test.
-  abbrev pub some-node : (D → Bool) → Forest D → Bool
-  some-node p end = false
-  some-node p (tree d k f) = p d || (some-node p (k child) || (some-node p (k descendant) || some-node p f))
+  abbrev pub some_node : (D → Bool) → Forest D → Bool
+  some_node p end = false
+  some_node p (tree d k f) = p d || (some_node p (k child) || (some_node p (k descendant) || some_node p f))
 
   -- No node is deeper than n, the roots being at depth 1.
   unfoldable pub Within : ℕ → Forest D → Type 0

@@ -2,7 +2,7 @@
 #![tactic(auto)]
 
 ghost use Rattle.std.specs.Prelude.{◌≡◌, true, false};
-ghost use Rattle.names.specs.Names.{same_name, amongNames, voidNames, esiNames, voidName, nameKey};
+ghost use Rattle.names.specs.Names.{same_name, among_names, void_names, esi_names, void_name, name_key};
 
 use letters::{lower, same};
 
@@ -21,7 +21,7 @@ const VOID_LENGTHS: [usize; 17] = [4, 4, 8, 7, 2, 3, 5, 2, 3, 5, 6, 4, 4, 5, 6, 
 
 // Whether a name is one of the 17, in any case of its letters.
 pub fn is_html_void(name: &[u8]) -> bool
-    ensures { result ≡ amongNames true name.now voidNames }
+    ensures { result ≡ among_names true name.now void_names }
 {
     let names = VOID_NAMES;
     let lengths = VOID_LENGTHS;
@@ -39,7 +39,7 @@ pub fn is_html_void(name: &[u8]) -> bool
 
 // ESI names, by exact bytes.
 pub fn is_esi_void(name: &[u8]) -> bool
-    ensures { result ≡ amongNames false name.now esiNames }
+    ensures { result ≡ among_names false name.now esi_names }
 {
     if same(name, false, b"esi:include", false) {
         return true;
@@ -48,7 +48,7 @@ pub fn is_esi_void(name: &[u8]) -> bool
 }
 
 pub fn is_void(name: &[u8], esi: bool) -> bool
-    ensures { result ≡ voidName esi name.now }
+    ensures { result ≡ void_name esi name.now }
 {
     if is_html_void(name) {
         return true;
@@ -58,7 +58,7 @@ pub fn is_void(name: &[u8], esi: bool) -> bool
 
 // A number over all lower-cased bytes, never 0: names whose keys differ are different.
 pub fn name_key(name: &[u8]) -> u32
-    ensures { result ≡ nameKey name.now }
+    ensures { result ≡ name_key name.now }
 {
     let mut hash: u64 = 0;
     let mut i = 0;

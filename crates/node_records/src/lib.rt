@@ -2,8 +2,8 @@
 #![tactic(auto)]
 
 ghost use Rattle.std.specs.Prelude.{◌≡◌, ◌+◌, ◌≤◌, length};
-ghost use Rattle.node_records.specs.Records.{countsAt};
-ghost use Rattle.node_records.specs.Checks.{kindOk, nameLengthOk, comparisonOk, bodyOk, checkTest, checkTests, rising, checkCounts, checkIds, checkRecord, countsOf};
+ghost use Rattle.node_records.specs.Records.{counts_at};
+ghost use Rattle.node_records.specs.Checks.{kind_ok, name_length_ok, comparison_ok, body_ok, check_test, check_tests, rising, check_counts, check_ids, check_record, counts_of};
 
 use cells::numbers::u16_at;
 use cells::{at8, get8, part_of};
@@ -27,7 +27,7 @@ pub enum Counts {
 }
 
 fn kind_ok(attributes: bool, kind: u8) -> bool
-    ensures { result ≡ kindOk attributes kind }
+    ensures { result ≡ kind_ok attributes kind }
 {
     if attributes {
         if kind < 16 { false } else { kind <= 25 }
@@ -37,13 +37,13 @@ fn kind_ok(attributes: bool, kind: u8) -> bool
 }
 
 fn name_length_ok(n: usize) -> bool
-    ensures { result ≡ nameLengthOk n }
+    ensures { result ≡ name_length_ok n }
 {
     if n < 1 { false } else { n <= 63 }
 }
 
 fn comparison_ok(body: &[u8]) -> bool
-    ensures { result ≡ comparisonOk body.now }
+    ensures { result ≡ comparison_ok body.now }
 {
     if body.len() < 2 {
         return false;
@@ -55,7 +55,7 @@ fn comparison_ok(body: &[u8]) -> bool
 }
 
 fn body_ok(kind: u8, body: &[u8]) -> bool
-    ensures { result ≡ bodyOk kind body.now }
+    ensures { result ≡ body_ok kind body.now }
 {
     match kind {
         1 => body.len() == 0,
@@ -74,7 +74,7 @@ fn body_ok(kind: u8, body: &[u8]) -> bool
 // The test at `at` of the node at `node`, whose record ends at `end`.
 fn check_test(s: &[u8], node: usize, end: usize, attributes: bool, at: usize) -> Step
     requires { 2 ≤ end }
-    ensures { result ≡ checkTest s.now node end attributes at }
+    ensures { result ≡ check_test s.now node end attributes at }
 {
     if end - 2 < at {
         return Step::Refused(8, node);
@@ -102,7 +102,7 @@ fn check_test(s: &[u8], node: usize, end: usize, attributes: bool, at: usize) ->
 // As many tests as `count` says, from `at` on.
 fn check_tests(s: &[u8], node: usize, end: usize, attributes: bool, count: usize, at: usize) -> Step
     requires { 2 ≤ end }
-    ensures { result ≡ checkTests s.now node end attributes count at }
+    ensures { result ≡ check_tests s.now node end attributes count at }
 {
     let mut left = count;
     let mut here = at;
@@ -143,7 +143,7 @@ fn ids_rise(ids: &[u8]) -> bool
 // The record at `node`, which ends at `end`, from its four numbers at `p` on.
 fn check_counts(s: &[u8], node: usize, end: usize, p: usize) -> Counts
     requires { (2 ≤ end) × (p ≤ end) }
-    ensures { result ≡ countsOf s.now p (checkCounts s.now node end p) }
+    ensures { result ≡ counts_of s.now p (check_counts s.now node end p) }
 {
     if end - p < 2 {
         return Counts::Refused(8, node);
@@ -177,7 +177,7 @@ fn check_counts(s: &[u8], node: usize, end: usize, p: usize) -> Counts
 // The record at `node`, which ends at `end`, from its ids on.
 fn check_ids(s: &[u8], node: usize, end: usize) -> Counts
     requires { node + 2 ≤ end }
-    ensures { result ≡ countsOf s.now (countsAt s.now node) (checkIds s.now node end) }
+    ensures { result ≡ counts_of s.now (counts_at s.now node) (check_ids s.now node end) }
 {
     if end - node < 3 {
         return Counts::Refused(8, node);
@@ -195,7 +195,7 @@ fn check_ids(s: &[u8], node: usize, end: usize) -> Counts
 // The record at `at`.
 pub fn check_record(s: &[u8], at: usize) -> Counts
     requires { 2 ≤ length s.now }
-    ensures { result ≡ countsOf s.now (countsAt s.now at) (checkRecord s.now at) }
+    ensures { result ≡ counts_of s.now (counts_at s.now at) (check_record s.now at) }
 {
     if s.len() - 2 < at {
         return Counts::Refused(8, at);

@@ -6,16 +6,16 @@ use Rattle.std.proofs.Math.Logic.Iff
 use Rattle.std.proofs.Math.Bool.{true, false}
 use mathlib.Core.List.{List, [], ◌∷◌}
 use Rattle.std.proofs.Math.Option.{Option, none, some}
-use Rattle.letters.specs.Bytes.{fold, equalBytes, sameBytes}
+use Rattle.letters.specs.Bytes.{fold, equal_bytes, same_bytes}
 use Rattle.letters.specs.BytesLaws.{equal→eq, equal-refl}
 use Rattle.nth.specs.Nth.{Nth}
 use Rattle.nth.specs.NthLaws.{nth-law}
 use Rattle.names.specs.NameLaws.{fold-twice, name-law}
 use Rattle.rules.specs.Attributes.{Attribute, lookup}
 use Rattle.rules.specs.AttributeLaws.{lookup-law, there-law, exact, any-case-law, there-any-case}
-use Rattle.operators.specs.Operators.{operatorHolds, valueHolds}
+use Rattle.operators.specs.Operators.{operator_holds, value_holds}
 use Rattle.operators.specs.OperatorLaws.{equal-law, includes-law, dash-law, prefix-law, suffix-law, substring-law}
-use Rattle.node_tests.specs.Tests.{TagTest, any, unmatchable, localName, nthChild, nthOfType, idIs, hasClass, exists, compares, idName, className, ignoresCase, tagHolds, attributeHolds, opposite}
+use Rattle.node_tests.specs.Tests.{TagTest, any, unmatchable, local_name, nth_child, nth_of_type, id_is, has_class, exists, compares, id_name, class_name, ignores_case, tag_holds, attribute_holds, opposite}
 use Rattle.operators.specs.Standard.{Equal, Prefix, Suffix, Substring, Dash, Part, Includes}
 use Rattle.rules.specs.Standard.{TypeSelector, HasAttribute, First, WithValue, IdSelector, ClassSelector}
 use Rattle.rules.specs.Departures.{CaseIgnored, AnyCase}
@@ -24,59 +24,59 @@ use Rattle.operators.specs.declared.Operator.{Operator}
 -- ---- tag tests
 
 -- E11: a local name is W3C's type selector, and ignores ASCII case outside HTML too; nowhere else does the test leave it.
-pub local-name-law : (html : Bool) (name : List ℕ) (child ofType : ℕ) (wanted : List ℕ)
-    → T (tagHolds name child ofType (localName wanted)) ↔ (TypeSelector html name wanted ⊎ ((html ≡ false) × ((name ≡ wanted → ⊥) × (fold true name ≡ fold true wanted))))
-unfolding tagHolds TypeSelector
-local-name-law true name child ofType wanted = (λ t. inl ((name-law name wanted).0 t), ⊎_elim (name-law name wanted).1 (λ p. (name-law name wanted).1 p.1.1))
-local-name-law false name child ofType wanted = (
-  (λ t. by_bytes (equalBytes name wanted) refl ((name-law name wanted).0 t)),
+pub local-name-law : (html : Bool) (name : List ℕ) (child of_type : ℕ) (wanted : List ℕ)
+    → T (tag_holds name child of_type (local_name wanted)) ↔ (TypeSelector html name wanted ⊎ ((html ≡ false) × ((name ≡ wanted → ⊥) × (fold true name ≡ fold true wanted))))
+unfolding tag_holds TypeSelector
+local-name-law true name child of_type wanted = (λ t. inl ((name-law name wanted).0 t), ⊎_elim (name-law name wanted).1 (λ p. (name-law name wanted).1 p.1.1))
+local-name-law false name child of_type wanted = (
+  (λ t. by_bytes (equal_bytes name wanted) refl ((name-law name wanted).0 t)),
   ⊎_elim (λ e. (name-law name wanted).1 (ap (fold true) (exact name wanted e))) (λ p. (name-law name wanted).1 p.1.1),
 )
   where
-    by_bytes : (b : Bool) → equalBytes name wanted ≡ b → fold true name ≡ fold true wanted → (fold false name ≡ fold false wanted) ⊎ ((false ≡ false) × ((name ≡ wanted → ⊥) × (fold true name ≡ fold true wanted)))
+    by_bytes : (b : Bool) → equal_bytes name wanted ≡ b → fold true name ≡ fold true wanted → (fold false name ≡ fold false wanted) ⊎ ((false ≡ false) × ((name ≡ wanted → ⊥) × (fold true name ≡ fold true wanted)))
     by_bytes true e h = inl (ap (fold false) (equal→eq name wanted (subst T (sym e) tt)))
-    by_bytes false e h = inr (refl, ((λ z. subst T (sym (ap (equalBytes name) (sym z)) ∙ e) (subst T (sym (equal-refl name)) tt)), h))
+    by_bytes false e h = inr (refl, ((λ z. subst T (sym (ap (equal_bytes name) (sym z)) ∙ e) (subst T (sym (equal-refl name)) tt)), h))
 
 -- E10: nth is exact for all whole numbers. (E3, by which names without namespace are counted, is about the positions that are passed in.)
-pub nth-child-law : (name : List ℕ) (child ofType : ℕ) (step offset : ℤ) → T (tagHolds name child ofType (nthChild step offset)) ↔ Nth step offset (pos child)
-unfolding tagHolds
-nth-child-law name child ofType step offset = nth-law step offset (pos child)
+pub nth-child-law : (name : List ℕ) (child of_type : ℕ) (step offset : ℤ) → T (tag_holds name child of_type (nth_child step offset)) ↔ Nth step offset (pos child)
+unfolding tag_holds
+nth-child-law name child of_type step offset = nth-law step offset (pos child)
 
-pub nth-of-type-law : (name : List ℕ) (child ofType : ℕ) (step offset : ℤ) → T (tagHolds name child ofType (nthOfType step offset)) ↔ Nth step offset (pos ofType)
-unfolding tagHolds
-nth-of-type-law name child ofType step offset = nth-law step offset (pos ofType)
+pub nth-of-type-law : (name : List ℕ) (child of_type : ℕ) (step offset : ℤ) → T (tag_holds name child of_type (nth_of_type step offset)) ↔ Nth step offset (pos of_type)
+unfolding tag_holds
+nth-of-type-law name child of_type step offset = nth-law step offset (pos of_type)
 
 -- Lower-casing a tag's name first changes no test.
-pub lowered-same : (name : List ℕ) (child ofType : ℕ) (t : TagTest) → tagHolds (fold true name) child ofType t ≡ tagHolds name child ofType t
-unfolding tagHolds sameBytes
-lowered-same name child ofType any = refl
-lowered-same name child ofType unmatchable = refl
-lowered-same name child ofType (localName wanted) = rw (fold-twice name)
-lowered-same name child ofType (nthChild step offset) = refl
-lowered-same name child ofType (nthOfType step offset) = refl
+pub lowered-same : (name : List ℕ) (child of_type : ℕ) (t : TagTest) → tag_holds (fold true name) child of_type t ≡ tag_holds name child of_type t
+unfolding tag_holds same_bytes
+lowered-same name child of_type any = refl
+lowered-same name child of_type unmatchable = refl
+lowered-same name child of_type (local_name wanted) = rw (fold-twice name)
+lowered-same name child of_type (nth_child step offset) = refl
+lowered-same name child of_type (nth_of_type step offset) = refl
 
 -- ---- attribute tests
 
 -- a value passes exactly when it is the first one's and the operator holds for it
 value-law : (operator : Operator) (f : Bool) (operand name : List ℕ) (attributes : List Attribute)
-    → T (valueHolds operator f operand (lookup (fold true name) attributes)) ↔ WithValue true name (λ value. T (operatorHolds operator f value operand)) attributes
-unfolding valueHolds WithValue
+    → T (value_holds operator f operand (lookup (fold true name) attributes)) ↔ WithValue true name (λ value. T (operator_holds operator f value operand)) attributes
+unfolding value_holds WithValue
 value-law operator f operand name attributes = (to (lookup (fold true name) attributes) refl, from)
   where
-    to : (o : Option (List ℕ)) → lookup (fold true name) attributes ≡ o → T (valueHolds operator f operand o) → (value : List ℕ) × (First true name value attributes × T (operatorHolds operator f value operand))
+    to : (o : Option (List ℕ)) → lookup (fold true name) attributes ≡ o → T (value_holds operator f operand o) → (value : List ℕ) × (First true name value attributes × T (operator_holds operator f value operand))
     to none e t = absurd t
     to (some value) e t = (value, ((lookup-law name attributes value).0 e, t))
 
-    from : ((value : List ℕ) × (First true name value attributes × T (operatorHolds operator f value operand))) → T (valueHolds operator f operand (lookup (fold true name) attributes))
-    from (value, (p, t)) = subst (λ (o : Option (List ℕ)). T (valueHolds operator f operand o)) (sym ((lookup-law name attributes value).1 p)) t
+    from : ((value : List ℕ) × (First true name value attributes × T (operator_holds operator f value operand))) → T (value_holds operator f operand (lookup (fold true name) attributes))
+    from (value, (p, t)) = subst (λ (o : Option (List ℕ)). T (value_holds operator f operand o)) (sym ((lookup-law name attributes value).1 p)) t
 
 by-value : {P Q : List ℕ → Type 0} (name : List ℕ) (attributes : List Attribute) → ((value : List ℕ) → P value ↔ Q value) → WithValue true name P attributes ↔ WithValue true name Q attributes
 unfolding WithValue
 by-value name attributes same = ((λ (value, (p, h)). (value, (p, (same value).0 h))), (λ (value, (p, h)). (value, (p, (same value).1 h))))
 
 -- what the operator of an id or a class says of a value, with E9 and E2
-id-value : (quirks : Bool) (operand value : List ℕ) → T (operatorHolds Operator.Equal false value operand) ↔ ((IdSelector quirks value operand × (T quirks → IdSelector false value operand)) ⊎ ((operand ≡ []) × (value ≡ [])))
-unfolding operatorHolds IdSelector Equal
+id-value : (quirks : Bool) (operand value : List ℕ) → T (operator_holds Operator.Equal false value operand) ↔ ((IdSelector quirks value operand × (T quirks → IdSelector false value operand)) ⊎ ((operand ≡ []) × (value ≡ [])))
+unfolding operator_holds IdSelector Equal
 id-value quirks operand value = (λ t. to operand ((equal-law false value operand).0 t), λ s. (equal-law false value operand).1 (from quirks s))
   where
     to : (x : List ℕ) → fold false value ≡ fold false x → (((x ≡ [] → ⊥) × (fold quirks value ≡ fold quirks x)) × (T quirks → (x ≡ [] → ⊥) × (fold false value ≡ fold false x))) ⊎ ((x ≡ []) × (value ≡ []))
@@ -91,8 +91,8 @@ id-value quirks operand value = (λ t. to operand ((equal-law false value operan
     from q (inr (z, w)) = ap (fold false) (w ∙ sym z)
 
 class-value : (quirks : Bool) (operand value : List ℕ)
-    → T (operatorHolds Operator.Includes false value operand) ↔ ((ClassSelector quirks value operand × (T quirks → ClassSelector false value operand)) ⊎ ((operand ≡ []) × Part value []))
-unfolding operatorHolds ClassSelector Includes
+    → T (operator_holds Operator.Includes false value operand) ↔ ((ClassSelector quirks value operand × (T quirks → ClassSelector false value operand)) ⊎ ((operand ≡ []) × Part value []))
+unfolding operator_holds ClassSelector Includes
 class-value quirks operand value = (
   (λ t. ⊎_elim (λ h. inl (lax h, λ q. h)) inr ((includes-law false value operand).0 t)),
   (λ s. (includes-law false value operand).1 (from quirks s)),
@@ -108,25 +108,25 @@ class-value quirks operand value = (
 
 -- Each looks at W3C's attribute, save by E11 (`AnyCase`), and says of its value what follows.
 module _ (html : Bool) (attributes : List Attribute) where
-  by-operator : (operator : Operator) (f : Bool) (operand name : List ℕ) (Says : List ℕ → Type 0) → ((value : List ℕ) → T (operatorHolds operator f value operand) ↔ Says value)
-      → T (valueHolds operator f operand (lookup (fold true name) attributes)) ↔ AnyCase html name Says attributes
+  by-operator : (operator : Operator) (f : Bool) (operand name : List ℕ) (Says : List ℕ → Type 0) → ((value : List ℕ) → T (operator_holds operator f value operand) ↔ Says value)
+      → T (value_holds operator f operand (lookup (fold true name) attributes)) ↔ AnyCase html name Says attributes
   by-operator operator f operand name Says same = Iff.trans (value-law operator f operand name attributes) (Iff.trans (by-value name attributes same) (any-case-law name html Says attributes))
 
   -- W3C's id selector; E9: in quirks documents only where it holds in others too; E2: an empty operand matches an empty id.
   pub id-law : (quirks : Bool) (operand : List ℕ)
-      → T (attributeHolds html attributes (idIs operand)) ↔ AnyCase html idName (λ value. (IdSelector quirks value operand × (T quirks → IdSelector false value operand)) ⊎ ((operand ≡ []) × (value ≡ []))) attributes
-  unfolding attributeHolds idName
-  id-law quirks operand = by-operator Operator.Equal false operand idName _ (id-value quirks operand)
+      → T (attribute_holds html attributes (id_is operand)) ↔ AnyCase html id_name (λ value. (IdSelector quirks value operand × (T quirks → IdSelector false value operand)) ⊎ ((operand ≡ []) × (value ≡ []))) attributes
+  unfolding attribute_holds id_name
+  id-law quirks operand = by-operator Operator.Equal false operand id_name _ (id-value quirks operand)
 
   -- W3C's class selector; E9: in quirks documents only where it holds in others too; E2: an empty operand matches where some part of the value is empty.
   pub class-law : (quirks : Bool) (operand : List ℕ)
-      → T (attributeHolds html attributes (hasClass operand)) ↔ AnyCase html className (λ value. (ClassSelector quirks value operand × (T quirks → ClassSelector false value operand)) ⊎ ((operand ≡ []) × Part value [])) attributes
-  unfolding attributeHolds className
-  class-law quirks operand = by-operator Operator.Includes false operand className _ (class-value quirks operand)
+      → T (attribute_holds html attributes (has_class operand)) ↔ AnyCase html class_name (λ value. (ClassSelector quirks value operand × (T quirks → ClassSelector false value operand)) ⊎ ((operand ≡ []) × Part value [])) attributes
+  unfolding attribute_holds class_name
+  class-law quirks operand = by-operator Operator.Includes false operand class_name _ (class-value quirks operand)
 
   -- W3C's [att]; E11: or the attribute is there in other case, outside HTML; E4: a name with a capital is never found.
-  pub exists-law : (name : List ℕ) → T (attributeHolds html attributes (exists name)) ↔ ((HasAttribute html name attributes ⊎ CaseIgnored html name attributes) × (fold true name ≡ name))
-  unfolding attributeHolds HasAttribute
+  pub exists-law : (name : List ℕ) → T (attribute_holds html attributes (exists name)) ↔ ((HasAttribute html name attributes ⊎ CaseIgnored html name attributes) × (fold true name ≡ name))
+  unfolding attribute_holds HasAttribute
   exists-law name = (
     (λ t. let (a, (m, e)) = (there-law name attributes).0 t in
         let low : fold true name ≡ name = ap (fold true) (sym e) ∙ fold-twice a.name ∙ e in
@@ -136,44 +136,44 @@ module _ (html : Bool) (attributes : List Attribute) where
 
   -- A comparison, by what its operator computes; the six laws below say it in W3C's words.
   pub compares-law : (operator : Operator) (case : ℕ) (name operand : List ℕ)
-      → T (attributeHolds html attributes (compares operator case name operand)) ↔ AnyCase html name (λ value. T (operatorHolds operator (ignoresCase case html) value operand)) attributes
-  unfolding attributeHolds
-  compares-law operator case name operand = by-operator operator (ignoresCase case html) operand name _ (λ value. Iff.rfl)
+      → T (attribute_holds html attributes (compares operator case name operand)) ↔ AnyCase html name (λ value. T (operator_holds operator (ignores_case case html) value operand)) attributes
+  unfolding attribute_holds
+  compares-law operator case name operand = by-operator operator (ignores_case case html) operand name _ (λ value. Iff.rfl)
 
   module _ (case : ℕ) (name operand : List ℕ) where
     -- a comparison holds exactly when of the value of the attribute of the name is said so
     abbrev Comparing : Operator → (List ℕ → Type 0) → Type 0
-    Comparing operator Says = T (attributeHolds html attributes (compares operator case name operand)) ↔ AnyCase html name Says attributes
+    Comparing operator Says = T (attribute_holds html attributes (compares operator case name operand)) ↔ AnyCase html name Says attributes
 
     -- [att=val]
-    pub equal-test-law : Comparing Operator.Equal (λ value. Equal (ignoresCase case html) value operand)
-    unfolding attributeHolds operatorHolds
-    equal-test-law = by-operator Operator.Equal (ignoresCase case html) operand name _ (λ value. equal-law (ignoresCase case html) value operand)
+    pub equal-test-law : Comparing Operator.Equal (λ value. Equal (ignores_case case html) value operand)
+    unfolding attribute_holds operator_holds
+    equal-test-law = by-operator Operator.Equal (ignores_case case html) operand name _ (λ value. equal-law (ignores_case case html) value operand)
 
     -- [att~=val]; E2: an empty operand matches where some part of the value is empty.
-    pub includes-test-law : Comparing Operator.Includes (λ value. Includes (ignoresCase case html) value operand ⊎ ((operand ≡ []) × Part value []))
-    unfolding attributeHolds operatorHolds
-    includes-test-law = by-operator Operator.Includes (ignoresCase case html) operand name _ (λ value. includes-law (ignoresCase case html) value operand)
+    pub includes-test-law : Comparing Operator.Includes (λ value. Includes (ignores_case case html) value operand ⊎ ((operand ≡ []) × Part value []))
+    unfolding attribute_holds operator_holds
+    includes-test-law = by-operator Operator.Includes (ignores_case case html) operand name _ (λ value. includes-law (ignores_case case html) value operand)
 
     -- [att|=val]
-    pub dash-test-law : Comparing Operator.Dash (λ value. Dash (ignoresCase case html) value operand)
-    unfolding attributeHolds operatorHolds
-    dash-test-law = by-operator Operator.Dash (ignoresCase case html) operand name _ (λ value. dash-law (ignoresCase case html) value operand)
+    pub dash-test-law : Comparing Operator.Dash (λ value. Dash (ignores_case case html) value operand)
+    unfolding attribute_holds operator_holds
+    dash-test-law = by-operator Operator.Dash (ignores_case case html) operand name _ (λ value. dash-law (ignores_case case html) value operand)
 
     -- [att^=val]; E1: an empty operand matches any value that is not empty.
-    pub prefix-test-law : Comparing Operator.Prefix (λ value. Prefix (ignoresCase case html) value operand ⊎ ((operand ≡ []) × (value ≡ [] → ⊥)))
-    unfolding attributeHolds operatorHolds
-    prefix-test-law = by-operator Operator.Prefix (ignoresCase case html) operand name _ (λ value. prefix-law (ignoresCase case html) value operand)
+    pub prefix-test-law : Comparing Operator.Prefix (λ value. Prefix (ignores_case case html) value operand ⊎ ((operand ≡ []) × (value ≡ [] → ⊥)))
+    unfolding attribute_holds operator_holds
+    prefix-test-law = by-operator Operator.Prefix (ignores_case case html) operand name _ (λ value. prefix-law (ignores_case case html) value operand)
 
     -- [att$=val]; E1
-    pub suffix-test-law : Comparing Operator.Suffix (λ value. Suffix (ignoresCase case html) value operand ⊎ ((operand ≡ []) × (value ≡ [] → ⊥)))
-    unfolding attributeHolds operatorHolds
-    suffix-test-law = by-operator Operator.Suffix (ignoresCase case html) operand name _ (λ value. suffix-law (ignoresCase case html) value operand)
+    pub suffix-test-law : Comparing Operator.Suffix (λ value. Suffix (ignores_case case html) value operand ⊎ ((operand ≡ []) × (value ≡ [] → ⊥)))
+    unfolding attribute_holds operator_holds
+    suffix-test-law = by-operator Operator.Suffix (ignores_case case html) operand name _ (λ value. suffix-law (ignores_case case html) value operand)
 
     -- [att*=val]
-    pub substring-test-law : Comparing Operator.Substring (λ value. Substring (ignoresCase case html) value operand)
-    unfolding attributeHolds operatorHolds
-    substring-test-law = by-operator Operator.Substring (ignoresCase case html) operand name _ (λ value. substring-law (ignoresCase case html) value operand)
+    pub substring-test-law : Comparing Operator.Substring (λ value. Substring (ignores_case case html) value operand)
+    unfolding attribute_holds operator_holds
+    substring-test-law = by-operator Operator.Substring (ignores_case case html) operand name _ (λ value. substring-law (ignores_case case html) value operand)
 
 -- ---- negation
 

@@ -1,7 +1,7 @@
 //! The attributes of one tag as one value (attribute_matcher.rs). Its functions are thin: each hands the slices on.
 ghost use Rattle.std.specs.Prelude.{◌≡◌};
-ghost use Rattle.rules.specs.Attributes.{attributesOf};
-ghost use Rattle.node_tests.specs.Tests.{attributeTestHolds, readAttributeTest};
+ghost use Rattle.rules.specs.Attributes.{attributes_of};
+ghost use Rattle.node_tests.specs.Tests.{attribute_test_holds, read_attribute_test};
 
 use crate::attribute_test_holds;
 
@@ -27,7 +27,7 @@ impl<'i, 'o> AttributeMatcher<'i, 'o> {
 
     // Whether the tag passes an attribute test of the sheet.
     pub fn matches<'t>(self, test: &'t [u8]) -> bool
-        ensures { result ≡ attributeTestHolds self.entry.html (attributesOf self.entry.input.now self.entry.outlines.now) (readAttributeTest test.now) }
+        ensures { result ≡ attribute_test_holds self.entry.html (attributes_of self.entry.input.now self.entry.outlines.now) (read_attribute_test test.now) }
     {
         attribute_test_holds(self.input, self.outlines, self.html, test)
     }

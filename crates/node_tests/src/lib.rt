@@ -2,8 +2,8 @@
 #![tactic(auto)]
 
 ghost use Rattle.std.specs.Prelude.{◌≡◌};
-ghost use Rattle.rules.specs.Attributes.{attributesOf};
-ghost use Rattle.node_tests.specs.Tests.{tagKind, tagHolds, tagTestHolds, readTagTest, ignoresCase, operatorOf, comparison, attributeKind, attributeHolds, attributeTestHolds, readAttributeTest};
+ghost use Rattle.rules.specs.Attributes.{attributes_of};
+ghost use Rattle.node_tests.specs.Tests.{tag_kind, tag_holds, tag_test_holds, read_tag_test, ignores_case, operator_of, comparison, attribute_kind, attribute_holds, attribute_test_holds, read_attribute_test};
 
 use attribute_matcher::AttributeMatcher;
 use cells::numbers::i32_at;
@@ -17,7 +17,7 @@ pub mod attribute_matcher;
 
 // A tag test by its kind and body.
 pub fn tag_kind(kind: u8, body: &[u8], name: &[u8], child: u32, of_type: u32) -> bool
-    ensures { result ≡ tagHolds name.now child of_type (tagKind kind body.now) }
+    ensures { result ≡ tag_holds name.now child of_type (tag_kind kind body.now) }
 {
     if kind == 1 {
         return true;
@@ -36,7 +36,7 @@ pub fn tag_kind(kind: u8, body: &[u8], name: &[u8], child: u32, of_type: u32) ->
 
 // A tag test for a name and its positions among siblings and among siblings of that name, from 1.
 pub fn tag_test(test: &[u8], name: &[u8], child: u32, of_type: u32) -> bool
-    ensures { result ≡ tagTestHolds name.now child of_type (readTagTest test.now) }
+    ensures { result ≡ tag_test_holds name.now child of_type (read_tag_test test.now) }
 {
     let holds = tag_kind(
         get8(test, 0),
@@ -53,7 +53,7 @@ pub fn tag_test(test: &[u8], name: &[u8], child: u32, of_type: u32) -> bool
 
 // Whether a case byte, in this namespace, ignores ASCII case.
 pub fn to_unconditional(case: u8, html: bool) -> bool
-    ensures { result ≡ ignoresCase case html }
+    ensures { result ≡ ignores_case case html }
 {
     if case == 2 {
         return true;
@@ -65,7 +65,7 @@ pub fn to_unconditional(case: u8, html: bool) -> bool
 }
 
 pub fn operator_of(kind: u8) -> Operator
-    ensures { result ≡ operatorOf kind }
+    ensures { result ≡ operator_of kind }
 {
     if kind == 20 {
         return Operator::Equal;
@@ -87,7 +87,7 @@ pub fn operator_of(kind: u8) -> Operator
 
 // A comparison's body: case byte, length of the name, name, value. Its name is lower-cased, as the Rust does when it compiles.
 pub fn compare_attribute(kind: u8, body: &[u8], input: &[u8], outlines: &[u32], html: bool) -> bool
-    ensures { result ≡ attributeHolds html (attributesOf input.now outlines.now) (comparison (operatorOf kind) body.now) }
+    ensures { result ≡ attribute_holds html (attributes_of input.now outlines.now) (comparison (operator_of kind) body.now) }
 {
     let end = 2 + at8(body, 1);
     let name = part_of(body, 2, end);
@@ -98,7 +98,7 @@ pub fn compare_attribute(kind: u8, body: &[u8], input: &[u8], outlines: &[u32], 
 
 // An attribute test by its kind and body.
 pub fn attribute_kind(kind: u8, body: &[u8], input: &[u8], outlines: &[u32], html: bool) -> bool
-    ensures { result ≡ attributeHolds html (attributesOf input.now outlines.now) (attributeKind kind body.now) }
+    ensures { result ≡ attribute_holds html (attributes_of input.now outlines.now) (attribute_kind kind body.now) }
 {
     if kind == 16 {
         return value_matches(input, outlines, b"id", false, Operator::Equal, body, false);
@@ -128,7 +128,7 @@ pub fn attribute_kind(kind: u8, body: &[u8], input: &[u8], outlines: &[u32], htm
 
 // An attribute test for a tag's input and outlines, in namespace HTML or another.
 pub fn attribute_test_holds(input: &[u8], outlines: &[u32], html: bool, test: &[u8]) -> bool
-    ensures { result ≡ attributeTestHolds html (attributesOf input.now outlines.now) (readAttributeTest test.now) }
+    ensures { result ≡ attribute_test_holds html (attributes_of input.now outlines.now) (read_attribute_test test.now) }
 {
     let holds = attribute_kind(
         get8(test, 0),
@@ -145,7 +145,7 @@ pub fn attribute_test_holds(input: &[u8], outlines: &[u32], html: bool, test: &[
 
 // The same with plain parameters for the machine: the tag's attributes become one value, which is asked.
 pub fn attribute_test(test: &[u8], input: &[u8], outlines: &[u32], html: bool) -> bool
-    ensures { result ≡ attributeTestHolds html (attributesOf input.now outlines.now) (readAttributeTest test.now) }
+    ensures { result ≡ attribute_test_holds html (attributes_of input.now outlines.now) (read_attribute_test test.now) }
 {
     AttributeMatcher::new(input, outlines, html).matches(test)
 }

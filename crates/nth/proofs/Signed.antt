@@ -11,7 +11,7 @@ use lib.Signed.{mag, quot_z, rem_z, le_z, lt_z}
 use mir.Syntax.{w32, w64}
 use mir.Val.{SFits, Fits, to_z, of_z}
 use mir.ValLaws.{to_z-of_z}
-use Rattle.nth.specs.Nth.{nthHolds, multipleOf}
+use Rattle.nth.specs.Nth.{nth_holds, multiple_of}
 
 pub wide : (z : ℤ) → SFits w32 z → SFits w64 z
 wide z f = omega arith
@@ -52,13 +52,13 @@ neg-zero zero h e = refl
 neg-zero (suc k) h e = absurd (omega arith)
 
 -- the four answers of the code, at s and d themselves
-step-zero : (s d : ℤ) → SFits w64 s → nat_abs d < 9223372036854775808 → of_z w64 s ≡ 0 → eqb (of_z w64 d) 0 ≡ multipleOf s d
+step-zero : (s d : ℤ) → SFits w64 s → nat_abs d < 9223372036854775808 → of_z w64 s ≡ 0 → eqb (of_z w64 d) 0 ≡ multiple_of s d
 step-zero (pos zero) (pos n) fs fd e = refl
 step-zero (pos zero) (negsuc n) fs fd e = ne_eqb (18446744073709551616 - suc n) 0 (λ z. omega arith)
 step-zero (pos (suc a)) d fs fd e = absurd (omega arith)
 step-zero (negsuc a) d fs fd e = absurd (omega arith)
 
-not-whole : (s d : ℤ) → (of_z w64 s ≡ 0 → ⊥) → (of_z w64 (rem_z d s) ≡ 0 → ⊥) → false ≡ multipleOf s d
+not-whole : (s d : ℤ) → (of_z w64 s ≡ 0 → ⊥) → (of_z w64 (rem_z d s) ≡ 0 → ⊥) → false ≡ multiple_of s d
 not-whole (pos zero) d ns nr = absurd (ns refl)
 not-whole (pos (suc a)) (pos m) ns nr = sym (ne_eqb (m % suc a) 0 nr)
 not-whole (pos (suc a)) (negsuc m) ns nr = refl
@@ -69,12 +69,12 @@ leb-eqb : (m : ℕ) → leb m 0 ≡ eqb m 0
 leb-eqb zero = refl
 leb-eqb (suc m) = leb-suc-zero m ∙ sym (eqb-suc-zero m)
 
-falling : (s d : ℤ) → nat_abs d < 9223372036854775808 → of_z w64 (rem_z d s) ≡ 0 → lt_z s (pos 0) ≡ true → le_z d (pos 0) ≡ multipleOf s d
+falling : (s d : ℤ) → nat_abs d < 9223372036854775808 → of_z w64 (rem_z d s) ≡ 0 → lt_z s (pos 0) ≡ true → le_z d (pos 0) ≡ multiple_of s d
 falling (pos a) d fd e l = absurd (omega (arith, ltb-true a 0 l))
 falling (negsuc a) (pos m) fd e l = leb-eqb m
 falling (negsuc a) (negsuc m) fd e l = sym (eq-eqb (suc m % suc a) 0 (neg-zero (suc m % suc a) (omega (arith, mod-le (suc m) (suc a))) e))
 
-rising : (s d : ℤ) → (of_z w64 s ≡ 0 → ⊥) → of_z w64 (rem_z d s) ≡ 0 → lt_z s (pos 0) ≡ false → le_z (pos 0) d ≡ multipleOf s d
+rising : (s d : ℤ) → (of_z w64 s ≡ 0 → ⊥) → of_z w64 (rem_z d s) ≡ 0 → lt_z s (pos 0) ≡ false → le_z (pos 0) d ≡ multiple_of s d
 rising (pos zero) d ns e l = absurd (ns refl)
 rising (pos (suc a)) (pos m) ns e l = leb-zero m ∙ sym (eq-eqb (m % suc a) 0 e)
 rising (pos (suc a)) (negsuc m) ns e l = refl
@@ -107,20 +107,20 @@ module _ (step offset : ℤ) (index : ℕ) (fs : SFits w32 step) (fo : SFits w32
   pub rem-fits : SFits w64 (quot_z (held64 (difference offset index)) (held64 (held32 step)))
   rem-fits = rw (dd-is, ss-is) (quot_fits (pos index -ℤ offset) step (diff-abs index offset fi fo))
 
-  pub answer-zero : of_z w64 (held32 step) ≡ 0 → eqb (of_z w64 (difference offset index)) 0 ≡ nthHolds step offset (pos index)
-  unfolding nthHolds
+  pub answer-zero : of_z w64 (held32 step) ≡ 0 → eqb (of_z w64 (difference offset index)) 0 ≡ nth_holds step offset (pos index)
+  unfolding nth_holds
   answer-zero e = rw d-is (step-zero step (pos index -ℤ offset) (wide step fs) (diff-abs index offset fi fo) (rw s-is at e))
 
   module _ (ns : of_z w64 (held32 step) ≡ 0 → ⊥) where
-    pub answer-part : (of_z w64 (rem_z (held64 (difference offset index)) (held64 (held32 step))) ≡ 0 → ⊥) → false ≡ nthHolds step offset (pos index)
-    unfolding nthHolds
+    pub answer-part : (of_z w64 (rem_z (held64 (difference offset index)) (held64 (held32 step))) ≡ 0 → ⊥) → false ≡ nth_holds step offset (pos index)
+    unfolding nth_holds
     answer-part nr = not-whole step (pos index -ℤ offset) (rw s-is at ns) (rw (dd-is, ss-is) at nr)
 
     module _ (e : of_z w64 (rem_z (held64 (difference offset index)) (held64 (held32 step))) ≡ 0) where
-      pub answer-falls : lt_z (held64 (held32 step)) (pos 0) ≡ true → le_z (held64 (difference offset index)) (pos 0) ≡ nthHolds step offset (pos index)
-      unfolding nthHolds
+      pub answer-falls : lt_z (held64 (held32 step)) (pos 0) ≡ true → le_z (held64 (difference offset index)) (pos 0) ≡ nth_holds step offset (pos index)
+      unfolding nth_holds
       answer-falls l = rw dd-is (falling step (pos index -ℤ offset) (diff-abs index offset fi fo) (rw (dd-is, ss-is) at e) (rw ss-is at l))
 
-      pub answer-rises : lt_z (held64 (held32 step)) (pos 0) ≡ false → le_z (pos 0) (held64 (difference offset index)) ≡ nthHolds step offset (pos index)
-      unfolding nthHolds
+      pub answer-rises : lt_z (held64 (held32 step)) (pos 0) ≡ false → le_z (pos 0) (held64 (difference offset index)) ≡ nth_holds step offset (pos index)
+      unfolding nth_holds
       answer-rises l = rw dd-is (rising step (pos index -ℤ offset) (rw s-is at ns) (rw (dd-is, ss-is) at e) (rw ss-is at l))

@@ -6,13 +6,13 @@ unfoldable pub Nth : ℤ → ℤ → ℤ → Type 0
 Nth step offset i = (n : ℕ) × (step *ℤ pos n +ℤ offset ≡ i)
 
 -- Whether the second number is the first times some n >= 0.
-abbrev pub multipleOf : ℤ → ℤ → Bool
-multipleOf (pos a) (negsuc d) = false
-multipleOf (pos zero) (pos d) = eqb d 0
-multipleOf (pos (suc a)) (pos d) = eqb (d % suc a) 0
-multipleOf (negsuc a) (pos d) = eqb d 0
-multipleOf (negsuc a) (negsuc d) = eqb (suc d % suc a) 0
+abbrev pub multiple_of : ℤ → ℤ → Bool
+multiple_of (pos a) (negsuc d) = false
+multiple_of (pos zero) (pos d) = eqb d 0
+multiple_of (pos (suc a)) (pos d) = eqb (d % suc a) 0
+multiple_of (negsuc a) (pos d) = eqb d 0
+multiple_of (negsuc a) (negsuc d) = eqb (suc d % suc a) 0
 
 -- The same, decided (`nth-law` says that it is).
-unfoldable pub nthHolds : ℤ → ℤ → ℤ → Bool
-nthHolds step offset i = multipleOf step (i -ℤ offset)
+unfoldable pub nth_holds : ℤ → ℤ → ℤ → Bool
+nth_holds step offset i = multiple_of step (i -ℤ offset)

@@ -3,19 +3,19 @@ use Rattle.std.specs.Prelude.{◌≡◌, refl, ◌↔◌, Bool, true, false, con
 use Rattle.std.proofs.Common.{⊎_elim}
 use mathlib.Core.List.Memᴰ
 use mathlib.Core.List.{List, [], ◌∷◌, ◌++◌, append-nil, append_assoc, Memᴰ}
-use Rattle.letters.specs.Bytes.{spaceByte}
+use Rattle.letters.specs.Bytes.{space_byte}
 use Rattle.operators.specs.Operators.{parts, split}
 use Rattle.operators.specs.Standard.{Clear, Before, After, Part}
 
 -- ---- what is listed is a part
 
-before_more : (front : List ℕ) (x : ℕ) → spaceByte x ≡ true → Before (front ++ (x ∷ []))
+before_more : (front : List ℕ) (x : ℕ) → space_byte x ≡ true → Before (front ++ (x ∷ []))
 unfolding Before
 before_more [] x e = e
 before_more (y ∷ []) x e = e
 before_more (y ∷ (z ∷ zs)) x e = before_more (z ∷ zs) x e
 
-clear-more : (so : List ℕ) (x : ℕ) → Clear so → spaceByte x ≡ false → Clear (so ++ (x ∷ []))
+clear-more : (so : List ℕ) (x : ℕ) → Clear so → space_byte x ≡ false → Clear (so ++ (x ∷ []))
 unfolding Clear
 clear-more [] x c e = (e, tt)
 clear-more (y ∷ so) x c e = (c.0, clear-more so x c.1 e)
@@ -24,9 +24,9 @@ clear-more (y ∷ so) x c e = (c.0, clear-more so x c.1 e)
 found : (done so v p : List ℕ) → Before done → Clear so → Memᴰ p (parts so v) → Part (done ++ (so ++ v)) p
 unfolding parts Clear After
 found done so [] p b c m = let e = Memᴰ.eq_of_singleton m in record { front = done; back = []; whole = rw e; clear = rw e c; before = b; after = tt }
-found done so (x ∷ xs) p b c m = go (spaceByte x) refl (λ d s. found d s xs p) m
+found done so (x ∷ xs) p b c m = go (space_byte x) refl (λ d s. found d s xs p) m
   where
-    go : (y : Bool) → spaceByte x ≡ y → ((d s : List ℕ) → Before d → Clear s → Memᴰ p (parts s xs) → Part (d ++ (s ++ xs)) p) → Memᴰ p (cond y (so ∷ parts [] xs) (parts (so ++ (x ∷ [])) xs)) → Part (done ++ (so ++ (x ∷ xs))) p
+    go : (y : Bool) → space_byte x ≡ y → ((d s : List ℕ) → Before d → Clear s → Memᴰ p (parts s xs) → Part (d ++ (s ++ xs)) p) → Memᴰ p (cond y (so ∷ parts [] xs) (parts (so ++ (x ∷ [])) xs)) → Part (done ++ (so ++ (x ∷ xs))) p
     go true e ih m =
         ⊎_elim
         (λ s. record { front = done; back = x ∷ xs; whole = rw s; clear = rw s c; before = b; after = e })
@@ -51,7 +51,7 @@ either_way false so p ps qs m n = n
 passes : (so front rest p : List ℕ) (x : ℕ) → Before (x ∷ front) → Memᴰ p (parts [] rest) → Memᴰ p (parts so (x ∷ (front ++ rest)))
 unfolding parts Before
 passes so [] rest p x b m = rw b (Memᴰ.tail m)
-passes so (y ∷ front) rest p x b m = either_way (spaceByte x) so p _ _ (passes [] front rest p y b m) (passes (so ++ (x ∷ [])) front rest p y b m)
+passes so (y ∷ front) rest p x b m = either_way (space_byte x) so p _ _ (passes [] front rest p y b m) (passes (so ++ (x ∷ [])) front rest p y b m)
 
 listed : (v p front back : List ℕ) → v ≡ front ++ (p ++ back) → Clear p → Before front → After back → Memᴰ p (parts [] v)
 listed v p [] back w c b a = rw w (grows [] p back c a)

@@ -1,7 +1,7 @@
 -- What Selectors Level 4 says of the attribute operators, in its own words, as statements about bytes.
 -- A case rule says whether ASCII case is ignored (`i`, `s`, or what the document language decides).
 use Rattle.std.specs.Prelude.{◌≡◌, ◌⊎◌, Bool, true, false, List, [], ◌∷◌, ◌++◌, ℕ}
-use Rattle.letters.specs.Bytes.{fold, spaceByte}
+use Rattle.letters.specs.Bytes.{fold, space_byte}
 
 -- [att=val]: the value is exactly val.
 unfoldable pub Equal : Bool → List ℕ → List ℕ → Type 0
@@ -26,18 +26,18 @@ Dash f value operand = (fold f value ≡ fold f operand) ⊎ ((rest : List ℕ) 
 -- No byte is white space.
 unfoldable pub Clear : List ℕ → Type 0
 Clear [] = Unit {0}
-Clear (x ∷ xs) = (spaceByte x ≡ false) × Clear xs
+Clear (x ∷ xs) = (space_byte x ≡ false) × Clear xs
 
 -- Nothing, or white space at the end of what goes before.
 unfoldable pub Before : List ℕ → Type 0
 Before [] = Unit {0}
-Before (x ∷ []) = spaceByte x ≡ true
+Before (x ∷ []) = space_byte x ≡ true
 Before (x ∷ (y ∷ ys)) = Before (y ∷ ys)
 
 -- Nothing, or white space at the start of what comes after.
 unfoldable pub After : List ℕ → Type 0
 After [] = Unit {0}
-After (x ∷ xs) = spaceByte x ≡ true
+After (x ∷ xs) = space_byte x ≡ true
 
 -- A part of a value between white space: bytes with none among them, with the value's start or white space before and its end or white space after.
 pub record Part (value p : List ℕ) : Type 0 where

@@ -2,7 +2,7 @@
 #![tactic(auto)]
 
 ghost use Rattle.std.specs.Prelude.{◌≡◌};
-ghost use Rattle.operators.specs.Operators.{beginsWith, prefixHolds, suffixHolds, dashHolds, substringHolds, includesHolds, operatorHolds};
+ghost use Rattle.operators.specs.Operators.{begins_with, prefix_holds, suffix_holds, dash_holds, substring_holds, includes_holds, operator_holds};
 
 use cells::part_of;
 use letters::{is_attr_whitespace, same};
@@ -19,14 +19,14 @@ pub enum Operator {
 
 // Whether `value` begins with `operand`.
 pub fn begins(value: &[u8], operand: &[u8], f: bool) -> bool
-    ensures { result ≡ beginsWith f value.now operand.now }
+    ensures { result ≡ begins_with f value.now operand.now }
 {
     same(part_of(value, 0, operand.len()), f, operand, f)
 }
 
 // [att^=val]
 pub fn has_attr_with_prefix(value: &[u8], operand: &[u8], f: bool) -> bool
-    ensures { result ≡ prefixHolds f value.now operand.now }
+    ensures { result ≡ prefix_holds f value.now operand.now }
 {
     if value.len() == 0 {
         return false;
@@ -36,7 +36,7 @@ pub fn has_attr_with_prefix(value: &[u8], operand: &[u8], f: bool) -> bool
 
 // [att$=val]
 pub fn has_attr_with_suffix(value: &[u8], operand: &[u8], f: bool) -> bool
-    ensures { result ≡ suffixHolds f value.now operand.now }
+    ensures { result ≡ suffix_holds f value.now operand.now }
 {
     if value.len() == 0 {
         return false;
@@ -50,7 +50,7 @@ pub fn has_attr_with_suffix(value: &[u8], operand: &[u8], f: bool) -> bool
 
 // [att|=val]
 pub fn has_dash_matching_attr(value: &[u8], operand: &[u8], f: bool) -> bool
-    ensures { result ≡ dashHolds f value.now operand.now }
+    ensures { result ≡ dash_holds f value.now operand.now }
 {
     let n = operand.len();
     if same(value, f, operand, f) {
@@ -67,7 +67,7 @@ pub fn has_dash_matching_attr(value: &[u8], operand: &[u8], f: bool) -> bool
 
 // [att*=val]
 pub fn has_attr_with_substring(value: &[u8], operand: &[u8], f: bool) -> bool
-    ensures { result ≡ substringHolds f value.now operand.now }
+    ensures { result ≡ substring_holds f value.now operand.now }
 {
     if operand.len() == 0 {
         return false;
@@ -84,7 +84,7 @@ pub fn has_attr_with_substring(value: &[u8], operand: &[u8], f: bool) -> bool
 
 // [att~=val]
 pub fn matches_splitted_by_whitespace(value: &[u8], operand: &[u8], f: bool) -> bool
-    ensures { result ≡ includesHolds f value.now operand.now }
+    ensures { result ≡ includes_holds f value.now operand.now }
 {
     let mut start = 0;
     let mut i = 0;
@@ -102,7 +102,7 @@ pub fn matches_splitted_by_whitespace(value: &[u8], operand: &[u8], f: bool) -> 
 
 // A value against an operand.
 pub fn compare(operator: Operator, value: &[u8], operand: &[u8], f: bool) -> bool
-    ensures { result ≡ operatorHolds operator f value.now operand.now }
+    ensures { result ≡ operator_holds operator f value.now operand.now }
 {
     match operator {
         Operator::Equal => same(value, f, operand, f),

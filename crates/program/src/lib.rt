@@ -3,11 +3,11 @@
 
 ghost use Rattle.std.specs.Prelude.{◌≡◌, map, ◌*◌, ◌≤◌, length};
 ghost use Rattle.std.proofs.lemmas.List.Edits.{sets};
-ghost use Rattle.node_tests.specs.Tests.{readTagTest};
-ghost use Rattle.node_records.specs.Records.{end_of, testsFrom, childCount, descendantCount};
-ghost use Rattle.sheet.specs.Meaning.{ofType};
+ghost use Rattle.node_tests.specs.Tests.{read_tag_test};
+ghost use Rattle.node_records.specs.Records.{end_of, tests_from, child_count, descendant_count};
+ghost use Rattle.sheet.specs.Meaning.{of_type};
 ghost use Rattle.sheet.specs.Spelling.{TestsInside, Inside};
-ghost use Rattle.program.specs.Program.{testKey, nodeKey, words, row, anyOfType, instructionAt};
+ghost use Rattle.program.specs.Program.{test_key, node_key, words, row, any_of_type, instruction_at};
 
 use cells::numbers::u16_at;
 use cells::{at8, part_of, put32};
@@ -15,7 +15,7 @@ use names::name_key;
 
 // The name key of one test: its name's if it is a local name, not negated.
 fn test_key(test: &[u8]) -> u32
-    ensures { result ≡ testKey (readTagTest test.now) }
+    ensures { result ≡ test_key (read_tag_test test.now) }
 {
     if at8(test, 0) != 3 {
         return 0;
@@ -29,7 +29,7 @@ fn test_key(test: &[u8]) -> u32
 // The name key of the `count` tests at `at`: the first one's.
 fn node_key(s: &[u8], count: usize, at: usize) -> u32
     requires { at ≤ 65536 }
-    ensures { result ≡ nodeKey (map readTagTest (testsFrom s.now count at)) }
+    ensures { result ≡ node_key (map read_tag_test (tests_from s.now count at)) }
 {
     if count == 0 {
         return 0;
@@ -39,7 +39,7 @@ fn node_key(s: &[u8], count: usize, at: usize) -> u32
 
 // Kind 5.
 fn is_of_type(test: &[u8]) -> bool
-    ensures { result ≡ ofType (readTagTest test.now).test }
+    ensures { result ≡ of_type (read_tag_test test.now).test }
 {
     at8(test, 0) == 5
 }
@@ -47,7 +47,7 @@ fn is_of_type(test: &[u8]) -> bool
 // Is a test of kind 5 among the `count` tests at `at`, which end before `end`?
 pub fn any_of_type(s: &[u8], end: usize, count: usize, at: usize) -> bool
     requires { (end ≤ 65536) × TestsInside s.now end count at }
-    ensures { result ≡ anyOfType (map readTagTest (testsFrom s.now count at)) }
+    ensures { result ≡ any_of_type (map read_tag_test (tests_from s.now count at)) }
 {
     let mut left = count;
     let mut here = at;
@@ -73,8 +73,8 @@ pub struct Links {
 pub fn links_at(s: &[u8], at: usize) -> Links
     requires { (length s.now ≤ 65536) × Inside s.now at }
     ensures next_value { result.next ≡ end_of s.now at }
-    ensures children_value { result.children ≡ childCount s.now at }
-    ensures descendants_value { result.descendants ≡ descendantCount s.now at }
+    ensures children_value { result.children ≡ child_count s.now at }
+    ensures descendants_value { result.descendants ≡ descendant_count s.now at }
 {
     let counts = at + 3 + at8(s, at + 2);
     Links {
@@ -127,7 +127,7 @@ pub fn put_instruction(
 )
     requires s_len_bound { (length s.now ≤ 65536) × Inside s.now at }
     requires slot_bound { (slot ≤ 1024) × ((children ≤ 1024) × (descendants ≤ 1024)) }
-    ensures { store.new ≡ sets store.old (slot * 8) (row (instructionAt s.now at children descendants)) }
+    ensures { store.new ≡ sets store.old (slot * 8) (row (instruction_at s.now at children descendants)) }
 {
     let counts = at + 3 + at8(s, at + 2);
     let tags = at8(s, counts);

@@ -2,8 +2,8 @@
 #![tactic(auto)]
 
 ghost use Rattle.std.specs.Prelude.{◌≡◌, [], ◌∷◌, ◌+◌, ◌<◌, ◌≤◌, ◌^◌, length};
-ghost use Rattle.cells.specs.Stretches.{cellsFrom, written};
-ghost use Rattle.stack.specs.Stores.{openLimit, parentLimit, ancestorLimit, foundLimit, nameLimit, idWords, stores, opens, parentsTop, ancestorsTop, childBlock, bearers, listed, newAncestors, with_row, pushed};
+ghost use Rattle.cells.specs.Stretches.{cells_from, written};
+ghost use Rattle.stack.specs.Stores.{open_limit, parent_limit, ancestor_limit, found_limit, name_limit, id_words, stores, opens, parents_top, ancestors_top, child_block, bearers, listed, new_ancestors, with_row, pushed};
 
 use cells::{at32, get16, get32, put16};
 use stack::blocks::has_block;
@@ -15,7 +15,7 @@ use stack::{
 
 fn keep_parent(nodes: &mut [u16], k: usize, program: &[u32], limit: usize, node: u16) -> usize
     requires { k < 2 ^ 63 }
-    ensures { (nodes.new ≡ written nodes.old k (bearers program.now limit childBlock (node ∷ []))) × (result ≡ k + length (bearers program.now limit childBlock (node ∷ []))) }
+    ensures { (nodes.new ≡ written nodes.old k (bearers program.now limit child_block (node ∷ []))) × (result ≡ k + length (bearers program.now limit child_block (node ∷ []))) }
 {
     if has_block(program, limit, CHILD_BLOCK, node) {
         put16(nodes, k, node);
@@ -26,7 +26,7 @@ fn keep_parent(nodes: &mut [u16], k: usize, program: &[u32], limit: usize, node:
 
 fn put_parents(nodes: &mut [u16], at: usize, program: &[u32], limit: usize, found: &[u16]) -> usize
     requires { at < 2 ^ 48 }
-    ensures { (nodes.new ≡ written nodes.old at (bearers program.now limit childBlock found.now)) × (result ≡ at + length (bearers program.now limit childBlock found.now)) }
+    ensures { (nodes.new ≡ written nodes.old at (bearers program.now limit child_block found.now)) × (result ≡ at + length (bearers program.now limit child_block found.now)) }
 {
     let mut k = at;
     let mut i = 0;
@@ -40,7 +40,7 @@ fn put_parents(nodes: &mut [u16], at: usize, program: &[u32], limit: usize, foun
 // Whether a node is among the n from a place on.
 fn is_listed(nodes: &[u16], at: usize, n: usize, node: u16) -> bool
     requires { (at < 2 ^ 48) × (n < 2 ^ 48) }
-    ensures { result ≡ listed node (cellsFrom nodes.now at n) }
+    ensures { result ≡ listed node (cells_from nodes.now at n) }
 {
     let mut j = 0;
     while j < n {
@@ -62,7 +62,7 @@ fn keep_ancestor(
     node: u16,
 ) -> usize
     requires { (base < 2 ^ 40) × (top < 2 ^ 40) × (k < 2 ^ 63) }
-    ensures { (nodes.new ≡ written nodes.old k (newAncestors (cellsFrom nodes.old base top) program.now limit (node ∷ []))) × (result ≡ k + length (newAncestors (cellsFrom nodes.old base top) program.now limit (node ∷ []))) }
+    ensures { (nodes.new ≡ written nodes.old k (new_ancestors (cells_from nodes.old base top) program.now limit (node ∷ []))) × (result ≡ k + length (new_ancestors (cells_from nodes.old base top) program.now limit (node ∷ []))) }
 {
     if !has_block(program, limit, DESCENDANT_BLOCK, node) {
         return k;
@@ -83,7 +83,7 @@ fn put_ancestors(
     found: &[u16],
 ) -> usize
     requires { (base < 2 ^ 40) × (top < 2 ^ 40) }
-    ensures { (nodes.new ≡ written nodes.old (base + top) (newAncestors (cellsFrom nodes.old base top) program.now limit found.now)) × (result ≡ base + top + length (newAncestors (cellsFrom nodes.old base top) program.now limit found.now)) }
+    ensures { (nodes.new ≡ written nodes.old (base + top) (new_ancestors (cells_from nodes.old base top) program.now limit found.now)) × (result ≡ base + top + length (new_ancestors (cells_from nodes.old base top) program.now limit found.now)) }
 {
     let mut k = base + top;
     let mut i = 0;
@@ -123,7 +123,7 @@ pub fn push_item(
     words: &[u64],
     found: &[u16],
 )
-    requires { (opens rows.old < openLimit) × (parentsTop rows.old ≤ parentLimit) × (ancestorsTop rows.old ≤ ancestorLimit) × (length name.now ≤ nameLimit) × (length words.now ≤ idWords) × (length found.now ≤ foundLimit) }
+    requires { (opens rows.old < open_limit) × (parents_top rows.old ≤ parent_limit) × (ancestors_top rows.old ≤ ancestor_limit) × (length name.now ≤ name_limit) × (length words.now ≤ id_words) × (length found.now ≤ found_limit) }
     ensures { stores rows.new names.new ids.new nodes.new ≡ pushed program.now limit (stores rows.old names.old ids.old nodes.old) name.now words.now found.now }
 {
     let k = at32(rows, OPENS) + 1;

@@ -2,10 +2,10 @@
 #![tactic(auto)]
 
 ghost use Rattle.std.specs.Prelude.{◌≡◌, ◌-◌, ◌≤◌, length};
-ghost use Rattle.cells.specs.Stretches.{cellsFrom, written};
+ghost use Rattle.cells.specs.Stretches.{cells_from, written};
 ghost use Rattle.attribute_records.specs.AttributeRecords.{read, Fits};
-ghost use Rattle.records.specs.Records.{recordEnd, start_of, recordOf};
-ghost use Rattle.records.specs.Sheets.{sheetLength, sheetEnd};
+ghost use Rattle.records.specs.Records.{record_end, start_of, record_of};
+ghost use Rattle.records.specs.Sheets.{sheet_length, sheet_end};
 
 use attribute_records::{Record, attributes_of};
 use cells::numbers::{u16_at, u32_at};
@@ -20,7 +20,7 @@ pub enum Cut {
 
 // The record at a place of a block: two bytes of length, then so many bytes.
 pub fn record_end(block: &[u8], at: usize) -> Cut
-    ensures { result ≡ recordEnd block.now at }
+    ensures { result ≡ record_end block.now at }
 {
     if block.len() <= at {
         return Cut::Short;
@@ -39,7 +39,7 @@ pub fn record_end(block: &[u8], at: usize) -> Cut
 // Moves the bytes from `at` to `end`, a record that was cut, to the front of their buffer, and answers how many they are.
 pub fn keep(s: &mut [u8], at: usize, end: usize) -> usize
     requires { (at ≤ end) × (end ≤ length s.old) }
-    ensures { (result ≡ end - at) × (s.new ≡ written s.old 0 (cellsFrom s.old at (end - at))) }
+    ensures { (result ≡ end - at) × (s.new ≡ written s.old 0 (cells_from s.old at (end - at))) }
 {
     let mut i = 0;
     while i < end - at {
@@ -61,7 +61,7 @@ fn start_of(body: &[u8]) -> Record
 
 // What a body says. The outlines are places in the body: name start, name end, value start, value end of each attribute.
 pub fn record_of(body: &[u8], outlines: &mut [u32]) -> Record
-    ensures outlines_after { read result outlines.new ≡ recordOf body.now outlines.old }
+    ensures outlines_after { read result outlines.new ≡ record_of body.now outlines.old }
     ensures fits { Fits result }
 {
     let kind = at8(body, 0);
@@ -79,7 +79,7 @@ pub fn record_of(body: &[u8], outlines: &mut [u32]) -> Record
 
 // How many bytes a sheet has, from its first five.
 pub fn sheet_length(head: &[u8]) -> usize
-    ensures value { result ≡ sheetLength head.now }
+    ensures value { result ≡ sheet_length head.now }
     ensures upper_bound { result ≤ 65536 }
 {
     let length = u32_at(head, 1);
@@ -91,7 +91,7 @@ pub fn sheet_length(head: &[u8]) -> usize
 
 // Where the sheet at the start of an input ends.
 pub fn sheet_end(input: &[u8]) -> usize
-    ensures value { result ≡ sheetEnd input.now }
+    ensures value { result ≡ sheet_end input.now }
     ensures upper_bound { (result ≤ length input.now) × (result ≤ 65536) }
 {
     if input.len() < 5 {

@@ -2,11 +2,11 @@
 use Rattle.std.specs.Prelude.{Bool, List, ℕ, ◌+◌, ◌≤◌, length, replicate}
 use Rattle.cells.specs.Stretches.{written}
 use Rattle.accepting.specs.Accepting.{Outcome}
-use Rattle.ends.specs.Ends.{endCall}
-use Rattle.starts.specs.Starts.{startCall}
-use Rattle.resumes.specs.Resumes.{attributesCall}
+use Rattle.ends.specs.Ends.{end_call}
+use Rattle.starts.specs.Starts.{start_call}
+use Rattle.resumes.specs.Resumes.{attributes_call}
 use Rattle.stack.specs.Stores.{Stores, stores}
-use Rattle.reply_lines.specs.ReplyLines.{replyLine, poppedLine}
+use Rattle.reply_lines.specs.ReplyLines.{reply_line, popped_line}
 use Rattle.replies.specs.declared.Said.{Said}
 
 -- What a record does: a line and the stores after it; or it is faulty, and they stay.
@@ -15,23 +15,23 @@ pub data Turn : Type 0 where
   faulty : (after : Stores) → Turn
 
 unfoldable pub spoken : Outcome → Turn
-spoken o = Turn.line (replyLine o.reply) o.after
+spoken o = Turn.line (reply_line o.reply) o.after
 
 -- Room for the ids of 256 popped elements, which are not printed.
-unfoldable pub poppedRoom : List ℕ
-poppedRoom = replicate 512 0
+unfoldable pub popped_room : List ℕ
+popped_room = replicate 512 0
 
 module _ (sheet program : List ℕ) (s : Stores) where
-  abbrev pub startTurn : (namespace : ℕ) → (name : List ℕ) → Turn
-  startTurn namespace name = spoken (startCall sheet program s namespace name)
+  abbrev pub start_turn : (namespace : ℕ) → (name : List ℕ) → Turn
+  start_turn namespace name = spoken (start_call sheet program s namespace name)
 
-  abbrev pub attributesTurn : (closing : Bool) → (body outlines : List ℕ) → Turn
-  attributesTurn closing body outlines = spoken (attributesCall sheet program s closing body outlines)
+  abbrev pub attributes_turn : (closing : Bool) → (body outlines : List ℕ) → Turn
+  attributes_turn closing body outlines = spoken (attributes_call sheet program s closing body outlines)
 
-  unfoldable pub endTurn : (name : List ℕ) → Turn
-  endTurn name =
-      let e = endCall sheet program s name poppedRoom in
-      Turn.line (poppedLine e.answer) (stores e.rows s.names s.ids s.nodes)
+  unfoldable pub end_turn : (name : List ℕ) → Turn
+  end_turn name =
+      let e = end_call sheet program s name popped_room in
+      Turn.line (popped_line e.answer) (stores e.rows s.names s.ids s.nodes)
 
 -- What the code says of a record: where its line ends, or that it is faulty; the buffer and the stores after it.
 pub record Answered : Type 0 where

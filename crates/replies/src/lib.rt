@@ -3,7 +3,7 @@
 
 ghost use Rattle.std.specs.Prelude.{◌≡◌, ◌+◌, ◌≤◌};
 ghost use Rattle.stack.specs.Stores.{stores};
-ghost use Rattle.replies.specs.Replies.{answered, startTurn, attributesTurn, endTurn, poppedRoom, saying};
+ghost use Rattle.replies.specs.Replies.{answered, start_turn, attributes_turn, end_turn, popped_room, saying};
 
 use reply_lines::{put_popped, put_reply};
 
@@ -27,7 +27,7 @@ pub fn answer_start(
     at: usize,
 ) -> usize
     requires { at ≤ 4294967296 }
-    ensures nodes_after { answered (Said.Line result) out.new (stores rows.new names.new ids.new nodes.new) ≡ saying (startTurn sheet.now program.now (stores rows.old names.old ids.old nodes.old) namespace name.now) out.old at }
+    ensures nodes_after { answered (Said.Line result) out.new (stores rows.new names.new ids.new nodes.new) ≡ saying (start_turn sheet.now program.now (stores rows.old names.old ids.old nodes.old) namespace name.now) out.old at }
     ensures upper_bound { result ≤ at + 4096 }
 {
     let reply = starts::start(sheet, program, rows, names, ids, nodes, namespace, name);
@@ -48,7 +48,7 @@ pub fn answer_attributes(
     at: usize,
 ) -> usize
     requires { at ≤ 4294967296 }
-    ensures nodes_after { answered (Said.Line result) out.new (stores rows.new names.new ids.new nodes.new) ≡ saying (attributesTurn sheet.now program.now (stores rows.old names.old ids.old nodes.old) closing body.now outlines.now) out.old at }
+    ensures nodes_after { answered (Said.Line result) out.new (stores rows.new names.new ids.new nodes.new) ≡ saying (attributes_turn sheet.now program.now (stores rows.old names.old ids.old nodes.old) closing body.now outlines.now) out.old at }
     ensures upper_bound { result ≤ at + 4096 }
 {
     let reply = resumes::attributes(
@@ -58,7 +58,7 @@ pub fn answer_attributes(
 }
 
 fn popped_room() -> [u64; 512]
-    ensures { result ≡ poppedRoom }
+    ensures { result ≡ popped_room }
 {
     [0; 512]
 }
@@ -76,7 +76,7 @@ pub fn answer_end(
     at: usize,
 ) -> usize
     requires { at ≤ 4294967296 }
-    ensures nodes_after { answered (Said.Line result) out.new (stores rows.new names.now ids.now nodes.now) ≡ saying (endTurn sheet.now program.now (stores rows.old names.now ids.now nodes.now) name.now) out.old at }
+    ensures nodes_after { answered (Said.Line result) out.new (stores rows.new names.now ids.now nodes.now) ≡ saying (end_turn sheet.now program.now (stores rows.old names.now ids.now nodes.now) name.now) out.old at }
     ensures upper_bound { result ≤ at + 4096 }
 {
     let mut popped = popped_room();

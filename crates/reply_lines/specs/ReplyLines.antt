@@ -1,21 +1,21 @@
 -- The line of an answer of the machine (01, section 8).
 use Rattle.std.specs.Prelude.{List, ℕ}
-use Rattle.match_lines.specs.MatchLines.{matchLine}
-use Rattle.lines.specs.Lines.{attrsLine, popLine, refusedLine}
+use Rattle.match_lines.specs.MatchLines.{match_line}
+use Rattle.lines.specs.Lines.{attrs_line, pop_line, refused_line}
 use Rattle.accepting.specs.declared.Answer.{Answer}
 use Rattle.ends.specs.declared.Popped.{Popped}
 use Rattle.accepting.specs.declared.Reply.{Reply}
 
 -- The line of an answer to a start tag or to attributes.
-unfoldable pub answerLine : Answer → (ids : List ℕ) → List ℕ
-answerLine (Answer.Match content) ids = matchLine ids content
-answerLine Answer.Attributes ids = attrsLine
-answerLine (Answer.Refused n) ids = refusedLine n
+unfoldable pub answer_line : Answer → (ids : List ℕ) → List ℕ
+answer_line (Answer.Match content) ids = match_line ids content
+answer_line Answer.Attributes ids = attrs_line
+answer_line (Answer.Refused n) ids = refused_line n
 
-abbrev pub replyLine : Reply → List ℕ
-replyLine r = answerLine r.answer r.ids
+abbrev pub reply_line : Reply → List ℕ
+reply_line r = answer_line r.answer r.ids
 
 -- The line of an answer to an end tag.
-unfoldable pub poppedLine : Popped → List ℕ
-poppedLine (Popped.Elements n) = popLine n
-poppedLine (Popped.Refused n) = refusedLine n
+unfoldable pub popped_line : Popped → List ℕ
+popped_line (Popped.Elements n) = pop_line n
+popped_line (Popped.Refused n) = refused_line n

@@ -3,7 +3,7 @@
 
 ghost use Rattle.std.specs.Prelude.{◌+◌, ◌≤◌};
 ghost use Rattle.text.specs.Text.{Wrote};
-ghost use Rattle.reply_lines.specs.ReplyLines.{replyLine, poppedLine};
+ghost use Rattle.reply_lines.specs.ReplyLines.{reply_line, popped_line};
 
 use accepting::{Answer, Reply};
 use ends::Popped;
@@ -12,7 +12,7 @@ use match_lines::put_match;
 
 pub fn put_reply(out: &mut [u8], at: usize, reply: Reply) -> usize
     requires { at ≤ 4294967296 }
-    ensures wrote { Wrote out.old at (replyLine reply) result out.new }
+    ensures wrote { Wrote out.old at (reply_line reply) result out.new }
     ensures upper_bound { result ≤ at + 4096 }
 {
     let answer = reply.answer;
@@ -26,7 +26,7 @@ pub fn put_reply(out: &mut [u8], at: usize, reply: Reply) -> usize
 
 pub fn put_popped(out: &mut [u8], at: usize, popped: Popped) -> usize
     requires { at ≤ 4294967296 }
-    ensures wrote { Wrote out.old at (poppedLine popped) result out.new }
+    ensures wrote { Wrote out.old at (popped_line popped) result out.new }
     ensures upper_bound { result ≤ at + 4096 }
 {
     match popped {

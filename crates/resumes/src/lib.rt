@@ -2,11 +2,11 @@
 #![tactic(auto)]
 
 ghost use Rattle.std.specs.Prelude.{◌≡◌, ◌≤◌, length, get_or};
-ghost use Rattle.sheet.specs.Parser.{nodeCount};
-ghost use Rattle.stack.specs.Stores.{stores, opens, parentsTop, ancestorsTop};
+ghost use Rattle.sheet.specs.Parser.{node_count};
+ghost use Rattle.stack.specs.Stores.{stores, opens, parents_top, ancestors_top};
 ghost use Rattle.accepting.specs.Accepting.{outcome};
 ghost use Rattle.tags.specs.Tags.{given};
-ghost use Rattle.resumes.specs.Resumes.{attributesCall};
+ghost use Rattle.resumes.specs.Resumes.{attributes_call};
 
 use accepting::{Reply, refused};
 use cells::get32;
@@ -29,7 +29,7 @@ fn attributes_named(
     input: &[u8],
     outlines: &[u32],
 ) -> Reply
-    requires { (opens rows.old ≤ 256) × (parentsTop rows.old ≤ 4096) × (ancestorsTop rows.old ≤ 1024) × (length name.now ≤ 63) × (get_or rows.old 7 0 ≤ nodeCount sheet.now) × (nodeCount sheet.now ≤ 1024) }
+    requires { (opens rows.old ≤ 256) × (parents_top rows.old ≤ 4096) × (ancestors_top rows.old ≤ 1024) × (length name.now ≤ 63) × (get_or rows.old 7 0 ≤ node_count sheet.now) × (node_count sheet.now ≤ 1024) }
     ensures { outcome result (stores rows.new names.new ids.new nodes.new) ≡ given sheet.now program.now (stores rows.old names.old ids.old nodes.old) name.now self_closing input.now outlines.now }
 {
     let mut found = [0; 1024];
@@ -62,7 +62,7 @@ pub fn attributes(
     input: &[u8],
     outlines: &[u32],
 ) -> Reply
-    ensures { outcome result (stores rows.new names.new ids.new nodes.new) ≡ attributesCall sheet.now program.now (stores rows.old names.old ids.old nodes.old) self_closing input.now outlines.now }
+    ensures { outcome result (stores rows.new names.new ids.new nodes.new) ≡ attributes_call sheet.now program.now (stores rows.old names.old ids.old nodes.old) self_closing input.now outlines.now }
 {
     let state = state_refusal(sheet, program, rows, names, ids, nodes);
     if state != 0 {

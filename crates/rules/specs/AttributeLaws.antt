@@ -8,28 +8,28 @@ use mathlib.Core.List.{List, [], ◌∷◌, Memᴰ}
 use Rattle.std.proofs.Math.Option.{some}
 use Rattle.std.proofs.Math.Dec.{T}
 use Rattle.std.proofs.lemmas.Bool.{false≢true}
-use Rattle.letters.specs.Bytes.{fold, equalBytes, sameBytes}
+use Rattle.letters.specs.Bytes.{fold, equal_bytes, same_bytes}
 use Rattle.letters.specs.BytesLaws.{holds, fold-false, equal→eq, equal-refl, same-law, exact-law}
-use Rattle.rules.specs.Attributes.{Attribute, lookup, isThere}
+use Rattle.rules.specs.Attributes.{Attribute, lookup, is_there}
 use Rattle.rules.specs.Standard.{HasAttribute, First, WithValue}
 use Rattle.rules.specs.Departures.{OtherCase, CaseIgnored, AnyCase}
 use Rattle.rules.specs.Lowered.{FirstLowered}
 
 module _ (wanted : List ℕ) where
-  named : (a : Attribute) → sameBytes true false a.name wanted ≡ true → fold true a.name ≡ wanted
+  named : (a : Attribute) → same_bytes true false a.name wanted ≡ true → fold true a.name ≡ wanted
   named a e = (exact-law true a.name wanted).0 (holds e)
 
-  not_named : (a : Attribute) → sameBytes true false a.name wanted ≡ false → fold true a.name ≡ wanted → ⊥
+  not_named : (a : Attribute) → same_bytes true false a.name wanted ≡ false → fold true a.name ≡ wanted → ⊥
   not_named a e n = rw e at ((exact-law true a.name wanted).1 n)
 
   -- It finds something exactly when some attribute has the name.
-  pub there-law : (attributes : List Attribute) → T (isThere (lookup wanted attributes)) ↔ ((a : Attribute) × (Memᴰ a attributes × (fold true a.name ≡ wanted)))
-  unfolding lookup isThere
+  pub there-law : (attributes : List Attribute) → T (is_there (lookup wanted attributes)) ↔ ((a : Attribute) × (Memᴰ a attributes × (fold true a.name ≡ wanted)))
+  unfolding lookup is_there
   there-law [] = (λ t. absurd t, λ p. absurd (Memᴰ.not-nil p.1.0))
-  there-law (a ∷ more) = go (sameBytes true false a.name wanted) refl (there-law more)
+  there-law (a ∷ more) = go (same_bytes true false a.name wanted) refl (there-law more)
     where
-      go : (b : Bool) → sameBytes true false a.name wanted ≡ b → T (isThere (lookup wanted more)) ↔ ((x : Attribute) × (Memᴰ x more × (fold true x.name ≡ wanted)))
-          → T (isThere (cond b (some a.value) (lookup wanted more))) ↔ ((x : Attribute) × (Memᴰ x (a ∷ more) × (fold true x.name ≡ wanted)))
+      go : (b : Bool) → same_bytes true false a.name wanted ≡ b → T (is_there (lookup wanted more)) ↔ ((x : Attribute) × (Memᴰ x more × (fold true x.name ≡ wanted)))
+          → T (is_there (cond b (some a.value) (lookup wanted more))) ↔ ((x : Attribute) × (Memᴰ x (a ∷ more) × (fold true x.name ≡ wanted)))
       go true s ih = (λ t. (a, (Memᴰ.head refl, named a s)), λ p. tt)
       go false s ih = (
         (λ t. let (x, (m, e)) = ih.0 t in (x, (Memᴰ.tail m, e))),
@@ -40,18 +40,18 @@ module _ (name : List ℕ) where
   to-first : (attributes : List Attribute) (value : List ℕ) → lookup (fold true name) attributes ≡ some value → First true name value attributes
   unfolding lookup
   to-first [] value e = let q : ◌≡◌ {A = ℕ} 0 1 = cc in absurd (omega arith)
-  to-first (a ∷ more) value e = go (sameBytes true false a.name (fold true name)) refl e (to-first more value)
+  to-first (a ∷ more) value e = go (same_bytes true false a.name (fold true name)) refl e (to-first more value)
     where
-      go : (b : Bool) → sameBytes true false a.name (fold true name) ≡ b → cond b (some a.value) (lookup (fold true name) more) ≡ some value → (lookup (fold true name) more ≡ some value → First true name value more) → First true name value (a ∷ more)
+      go : (b : Bool) → same_bytes true false a.name (fold true name) ≡ b → cond b (some a.value) (lookup (fold true name) more) ≡ some value → (lookup (fold true name) more ≡ some value → First true name value more) → First true name value (a ∷ more)
       go true s e ih = First.here {a = a} (named (fold true name) a s) (cc)
       go false s e ih = First.later (not_named (fold true name) a s) (ih e)
 
   from_first : (attributes : List Attribute) (value : List ℕ) → First true name value attributes → lookup (fold true name) attributes ≡ some value
   unfolding lookup
   from_first [] value f = elim f [ ]
-  from_first (a ∷ more) value f = go (sameBytes true false a.name (fold true name)) refl f (from_first more value)
+  from_first (a ∷ more) value f = go (same_bytes true false a.name (fold true name)) refl f (from_first more value)
     where
-      go : (b : Bool) → sameBytes true false a.name (fold true name) ≡ b → First true name value (a ∷ more) → (First true name value more → lookup (fold true name) more ≡ some value) → cond b (some a.value) (lookup (fold true name) more) ≡ some value
+      go : (b : Bool) → same_bytes true false a.name (fold true name) ≡ b → First true name value (a ∷ more) → (First true name value more → lookup (fold true name) more ≡ some value) → cond b (some a.value) (lookup (fold true name) more) ≡ some value
       go true s (First.here n v) ih = ap some v
       go true s (First.later n f) ih = absurd (n (named (fold true name) a s))
       go false s (First.here n v) ih = absurd (not_named (fold true name) a s n)
@@ -65,18 +65,18 @@ module _ (wanted : List ℕ) where
   to-lowered : (attributes : List Attribute) (value : List ℕ) → lookup wanted attributes ≡ some value → FirstLowered wanted value attributes
   unfolding lookup
   to-lowered [] value e = let q : ◌≡◌ {A = ℕ} 0 1 = cc in absurd (omega arith)
-  to-lowered (a ∷ more) value e = go (sameBytes true false a.name wanted) refl e (to-lowered more value)
+  to-lowered (a ∷ more) value e = go (same_bytes true false a.name wanted) refl e (to-lowered more value)
     where
-      go : (b : Bool) → sameBytes true false a.name wanted ≡ b → cond b (some a.value) (lookup wanted more) ≡ some value → (lookup wanted more ≡ some value → FirstLowered wanted value more) → FirstLowered wanted value (a ∷ more)
+      go : (b : Bool) → same_bytes true false a.name wanted ≡ b → cond b (some a.value) (lookup wanted more) ≡ some value → (lookup wanted more ≡ some value → FirstLowered wanted value more) → FirstLowered wanted value (a ∷ more)
       go true s e ih = FirstLowered.here {a = a} (named wanted a s) (cc)
       go false s e ih = FirstLowered.later (not_named wanted a s) (ih e)
 
   from-lowered : (attributes : List Attribute) (value : List ℕ) → FirstLowered wanted value attributes → lookup wanted attributes ≡ some value
   unfolding lookup
   from-lowered [] value f = elim f [ ]
-  from-lowered (a ∷ more) value f = go (sameBytes true false a.name wanted) refl f (from-lowered more value)
+  from-lowered (a ∷ more) value f = go (same_bytes true false a.name wanted) refl f (from-lowered more value)
     where
-      go : (b : Bool) → sameBytes true false a.name wanted ≡ b → FirstLowered wanted value (a ∷ more) → (FirstLowered wanted value more → lookup wanted more ≡ some value) → cond b (some a.value) (lookup wanted more) ≡ some value
+      go : (b : Bool) → same_bytes true false a.name wanted ≡ b → FirstLowered wanted value (a ∷ more) → (FirstLowered wanted value more → lookup wanted more ≡ some value) → cond b (some a.value) (lookup wanted more) ≡ some value
       go true s (FirstLowered.here n v) ih = ap some v
       go true s (FirstLowered.later n f) ih = absurd (n (named wanted a s))
       go false s (FirstLowered.here n v) ih = absurd (not_named wanted a s n)
@@ -93,8 +93,8 @@ pub exact : (a b : List ℕ) → fold false a ≡ fold false b → a ≡ b
 exact a b e = sym (fold-false a) ∙ e ∙ fold-false b
 
 module _ (name : List ℕ) where
-  differs : (a : Attribute) → equalBytes a.name name ≡ false → a.name ≡ name → ⊥
-  differs a e z = false≢true (sym e ∙ ap (equalBytes a.name) (sym z) ∙ equal-refl a.name)
+  differs : (a : Attribute) → equal_bytes a.name name ≡ false → a.name ≡ name → ⊥
+  differs a e z = false≢true (sym e ∙ ap (equal_bytes a.name) (sym z) ∙ equal-refl a.name)
 
   none-later : (a : Attribute) (more : List Attribute) → ((a.name ≡ name → ⊥) → fold true a.name ≡ fold true name → ⊥) → (OtherCase name more → ⊥) → OtherCase name (a ∷ more) → ⊥
   unfolding OtherCase
@@ -104,9 +104,9 @@ module _ (name : List ℕ) where
   other : (attributes : List Attribute) → OtherCase name attributes ⊎ (OtherCase name attributes → ⊥)
   unfolding OtherCase
   other [] = inr (λ p. absurd (Memᴰ.not-nil p.1.0))
-  other (a ∷ more) = go (equalBytes a.name name) refl (sameBytes true true a.name name) refl (other more)
+  other (a ∷ more) = go (equal_bytes a.name name) refl (same_bytes true true a.name name) refl (other more)
     where
-      go : (x : Bool) → equalBytes a.name name ≡ x → (y : Bool) → sameBytes true true a.name name ≡ y → OtherCase name more ⊎ (OtherCase name more → ⊥) → OtherCase name (a ∷ more) ⊎ (OtherCase name (a ∷ more) → ⊥)
+      go : (x : Bool) → equal_bytes a.name name ≡ x → (y : Bool) → same_bytes true true a.name name ≡ y → OtherCase name more ⊎ (OtherCase name more → ⊥) → OtherCase name (a ∷ more) ⊎ (OtherCase name (a ∷ more) → ⊥)
       go x e y s (inl (b, (m, q))) = inl (b, (Memᴰ.tail m, q))
       go true e y s (inr k) = inr (none-later a more (λ d h. d (equal→eq a.name name (holds e))) k)
       go false e true s (inr k) = inl (a, (Memᴰ.head refl, (differs a e, (same-law true true a.name name).0 (holds s))))
@@ -117,9 +117,9 @@ module _ (name : List ℕ) where
     to-exact : (attributes : List Attribute) → (OtherCase name attributes → ⊥) → First true name value attributes → First false name value attributes
     unfolding OtherCase
     to-exact [] k f = elim f [ ]
-    to-exact (a ∷ more) k f = go (equalBytes a.name name) refl f (to-exact more (λ (x, (m, q)). k (x, (Memᴰ.tail m, q))))
+    to-exact (a ∷ more) k f = go (equal_bytes a.name name) refl f (to-exact more (λ (x, (m, q)). k (x, (Memᴰ.tail m, q))))
       where
-        go : (b : Bool) → equalBytes a.name name ≡ b → First true name value (a ∷ more) → (First true name value more → First false name value more) → First false name value (a ∷ more)
+        go : (b : Bool) → equal_bytes a.name name ≡ b → First true name value (a ∷ more) → (First true name value more → First false name value more) → First false name value (a ∷ more)
         go true e (First.here n v) ih = First.here (ap (fold false) (equal→eq a.name name (holds e))) v
         go false e (First.here n v) ih = absurd (k (a, (Memᴰ.head refl, (differs a e, n))))
         go b e (First.later n f) ih = First.later (λ z. n (ap (fold true) (exact a.name name z))) (ih f)
@@ -127,9 +127,9 @@ module _ (name : List ℕ) where
     from-exact : (attributes : List Attribute) → (OtherCase name attributes → ⊥) → First false name value attributes → First true name value attributes
     unfolding OtherCase
     from-exact [] k f = elim f [ ]
-    from-exact (a ∷ more) k f = go (sameBytes true true a.name name) refl f (from-exact more (λ (x, (m, q)). k (x, (Memᴰ.tail m, q))))
+    from-exact (a ∷ more) k f = go (same_bytes true true a.name name) refl f (from-exact more (λ (x, (m, q)). k (x, (Memᴰ.tail m, q))))
       where
-        go : (b : Bool) → sameBytes true true a.name name ≡ b → First false name value (a ∷ more) → (First false name value more → First true name value more) → First true name value (a ∷ more)
+        go : (b : Bool) → same_bytes true true a.name name ≡ b → First false name value (a ∷ more) → (First false name value more → First true name value more) → First true name value (a ∷ more)
         go b s (First.here n v) ih = First.here (ap (fold true) (exact a.name name n)) v
         go true s (First.later n f) ih = absurd (k (a, (Memᴰ.head refl, ((λ z. n (ap (fold false) z)), (same-law true true a.name name).0 (holds s)))))
         go false s (First.later n f) ih = First.later (λ h. rw s at ((same-law true true a.name name).1 h)) (ih f)
@@ -150,8 +150,8 @@ module _ (name : List ℕ) where
   there-any-case false attributes = (to, ⊎_elim (λ (a, (m, e)). (a, (m, ap (fold true) (exact a.name name e)))) (λ (z, (a, (m, (d, e)))). (a, (m, e))))
     where
       to : (a : Attribute) × (Memᴰ a attributes × (fold true a.name ≡ fold true name)) → ((a : Attribute) × (Memᴰ a attributes × (fold false a.name ≡ fold false name))) ⊎ ((false ≡ false) × OtherCase name attributes)
-      to (a, (m, e)) = go (equalBytes a.name name) refl
+      to (a, (m, e)) = go (equal_bytes a.name name) refl
         where
-          go : (b : Bool) → equalBytes a.name name ≡ b → ((a : Attribute) × (Memᴰ a attributes × (fold false a.name ≡ fold false name))) ⊎ ((false ≡ false) × OtherCase name attributes)
+          go : (b : Bool) → equal_bytes a.name name ≡ b → ((a : Attribute) × (Memᴰ a attributes × (fold false a.name ≡ fold false name))) ⊎ ((false ≡ false) × OtherCase name attributes)
           go true q = inl (a, (m, ap (fold false) (equal→eq a.name name (holds q))))
           go false q = inr (refl, (a, (m, (differs a q, e))))

@@ -1,8 +1,8 @@
 //! Attributes: the lookup by name, and the value found against an operand.
 ghost use Rattle.std.specs.Prelude.{◌≡◌};
 ghost use Rattle.letters.specs.Bytes.{fold};
-ghost use Rattle.rules.specs.Attributes.{liesWithin, wellFormed, goodOutlines, findIn, lookup, attributesOf, isThere};
-ghost use Rattle.operators.specs.Operators.{valueHolds};
+ghost use Rattle.rules.specs.Attributes.{lies_within, well_formed, good_outlines, find_in, lookup, attributes_of, is_there};
+ghost use Rattle.operators.specs.Operators.{value_holds};
 
 use cells::{at32, part_of};
 use letters::same;
@@ -17,7 +17,7 @@ pub enum Found {
 
 // No start past its end, no end past `size`.
 pub fn lies_within(size: usize, start: usize, end: usize) -> bool
-    ensures { result ≡ liesWithin size start end }
+    ensures { result ≡ lies_within size start end }
 {
     if end < start {
         return false;
@@ -27,7 +27,7 @@ pub fn lies_within(size: usize, start: usize, end: usize) -> bool
 
 // Outlines come in fours, names and values lie within `size` bytes.
 pub fn well_formed(size: usize, outlines: &[u32]) -> bool
-    ensures { result ≡ wellFormed size outlines.now }
+    ensures { result ≡ well_formed size outlines.now }
 {
     let mut i = 0;
     while i < outlines.len() {
@@ -47,7 +47,7 @@ pub fn well_formed(size: usize, outlines: &[u32]) -> bool
 
 // What refusal 24 does not refuse.
 pub fn good_outlines(input: &[u8], outlines: &[u32]) -> bool
-    ensures { result ≡ goodOutlines input.now outlines.now }
+    ensures { result ≡ good_outlines input.now outlines.now }
 {
     if 65536 < input.len() {
         return false;
@@ -60,7 +60,7 @@ pub fn good_outlines(input: &[u8], outlines: &[u32]) -> bool
 
 // The first outline whose lower-cased name is `name`, which is lower-cased too where its case is ignored.
 pub fn find(input: &[u8], outlines: &[u32], name: &[u8], ignore: bool) -> Found
-    ensures { result ≡ findIn input.now (fold ignore name.now) outlines.now }
+    ensures { result ≡ find_in input.now (fold ignore name.now) outlines.now }
 {
     let mut i = 0;
     while i < outlines.len() {
@@ -77,7 +77,7 @@ pub fn find(input: &[u8], outlines: &[u32], name: &[u8], ignore: bool) -> Found
 }
 
 pub fn has_attribute(input: &[u8], outlines: &[u32], name: &[u8]) -> bool
-    ensures { result ≡ isThere (lookup name.now (attributesOf input.now outlines.now)) }
+    ensures { result ≡ is_there (lookup name.now (attributes_of input.now outlines.now)) }
 {
     match find(input, outlines, name, false) {
         Found::At(_, _) => true,
@@ -95,7 +95,7 @@ pub fn value_matches(
     operand: &[u8],
     f: bool,
 ) -> bool
-    ensures { result ≡ valueHolds operator f operand.now (lookup (fold ignore name.now) (attributesOf input.now outlines.now)) }
+    ensures { result ≡ value_holds operator f operand.now (lookup (fold ignore name.now) (attributes_of input.now outlines.now)) }
 {
     match find(input, outlines, name, ignore) {
         Found::At(start, end) => compare(operator, part_of(input, start, end), operand, f),

@@ -10,13 +10,13 @@ use Rattle.making.specs.declared.Made.{Made}
 use Rattle.ends.specs.declared.Popped.{Popped}
 use Rattle.stack.specs.Stores.{Stores}
 use Rattle.told.specs.declared.Told.{Told}
-use Rattle.told.specs.Told.{madeTold, replyTold, poppedTold}
+use Rattle.told.specs.Told.{made_told, reply_told, popped_told}
 
-pub made : (o : Fresh) (m : Made) (program rows : List ℕ) (t : Told) → fresh m program rows ≡ o → t ≡ madeTold m → (t ≡ madeTold o.made) × (program ≡ o.program) × (rows ≡ o.rows)
-made o m program rows t e f = (f ∙ ap (λ x. madeTold x.made) e, ap (λ x. x.program) e, ap (λ x. x.rows) e)
+pub made : (o : Fresh) (m : Made) (program rows : List ℕ) (t : Told) → fresh m program rows ≡ o → t ≡ made_told m → (t ≡ made_told o.made) × (program ≡ o.program) × (rows ≡ o.rows)
+made o m program rows t e f = (f ∙ ap (λ x. made_told x.made) e, ap (λ x. x.program) e, ap (λ x. x.rows) e)
 
-pub replied : (o : Outcome) (r : Reply) (s : Stores) (t : Told) → outcome r s ≡ o → t ≡ replyTold r → (t ≡ replyTold o.reply) × (s ≡ o.after)
-replied o r s t e f = (f ∙ ap (λ x. replyTold x.reply) e, ap (λ x. x.after) e)
+pub replied : (o : Outcome) (r : Reply) (s : Stores) (t : Told) → outcome r s ≡ o → t ≡ reply_told r → (t ≡ reply_told o.reply) × (s ≡ o.after)
+replied o r s t e f = (f ∙ ap (λ x. reply_told x.reply) e, ap (λ x. x.after) e)
 
-pub popped : (o : Ended) (p : Popped) (rows out : List ℕ) (t : Told) → ended p rows out ≡ o → t ≡ poppedTold p → (t ≡ poppedTold o.answer) × (rows ≡ o.rows) × (out ≡ o.out)
-popped o p rows out t e f = (f ∙ ap (λ x. poppedTold x.answer) e, ap (λ x. x.rows) e, ap (λ x. x.out) e)
+pub popped : (o : Ended) (p : Popped) (rows out : List ℕ) (t : Told) → ended p rows out ≡ o → t ≡ popped_told p → (t ≡ popped_told o.answer) × (rows ≡ o.rows) × (out ≡ o.out)
+popped o p rows out t e f = (f ∙ ap (λ x. popped_told x.answer) e, ap (λ x. x.rows) e, ap (λ x. x.out) e)

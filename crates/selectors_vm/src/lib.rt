@@ -2,13 +2,13 @@
 #![tactic(auto)]
 
 ghost use Rattle.std.specs.Prelude.{◌≡◌};
-ghost use Rattle.making.specs.Making.{freshCall};
-ghost use Rattle.ends.specs.Ends.{endCall, idSetCall};
-ghost use Rattle.starts.specs.Starts.{startCall};
-ghost use Rattle.resumes.specs.Resumes.{attributesCall};
+ghost use Rattle.making.specs.Making.{fresh_call};
+ghost use Rattle.ends.specs.Ends.{end_call, id_set_call};
+ghost use Rattle.starts.specs.Starts.{start_call};
+ghost use Rattle.resumes.specs.Resumes.{attributes_call};
 ghost use Rattle.stack.specs.Stores.{stores};
-ghost use Rattle.told.specs.Told.{madeTold, replyTold, poppedTold, topReplyTold};
-ghost use Rattle.selectors_vm.specs.Flags.{isOn};
+ghost use Rattle.told.specs.Told.{made_told, reply_told, popped_told, top_reply_told};
+ghost use Rattle.selectors_vm.specs.Flags.{is_on};
 
 use told::{Told, tell_made, tell_popped, tell_reply, tell_top_reply};
 
@@ -23,7 +23,7 @@ pub extern "C" fn selectors_vm_fresh(
     nodes: &[u16],
     esi: u32,
 ) -> Told
-    ensures { (result ≡ madeTold (freshCall sheet.now (isOn esi) program.old (stores rows.old names.now ids.now nodes.now)).made) × (program.new ≡ (freshCall sheet.now (isOn esi) program.old (stores rows.old names.now ids.now nodes.now)).program) × (rows.new ≡ (freshCall sheet.now (isOn esi) program.old (stores rows.old names.now ids.now nodes.now)).rows) }
+    ensures { (result ≡ made_told (fresh_call sheet.now (is_on esi) program.old (stores rows.old names.now ids.now nodes.now)).made) × (program.new ≡ (fresh_call sheet.now (is_on esi) program.old (stores rows.old names.now ids.now nodes.now)).program) × (rows.new ≡ (fresh_call sheet.now (is_on esi) program.old (stores rows.old names.now ids.now nodes.now)).rows) }
 {
     tell_made(making::fresh_machine(sheet, esi != 0, program, rows, names, ids, nodes))
 }
@@ -40,7 +40,7 @@ pub extern "C" fn selectors_vm_start(
     namespace: u32,
     name: &[u8],
 ) -> Told
-    ensures { (result ≡ replyTold (startCall sheet.now program.now (stores rows.old names.old ids.old nodes.old) namespace name.now).reply) × (stores rows.new names.new ids.new nodes.new ≡ (startCall sheet.now program.now (stores rows.old names.old ids.old nodes.old) namespace name.now).after) }
+    ensures { (result ≡ reply_told (start_call sheet.now program.now (stores rows.old names.old ids.old nodes.old) namespace name.now).reply) × (stores rows.new names.new ids.new nodes.new ≡ (start_call sheet.now program.now (stores rows.old names.old ids.old nodes.old) namespace name.now).after) }
 {
     tell_reply(starts::start(sheet, program, rows, names, ids, nodes, namespace, name))
 }
@@ -58,7 +58,7 @@ pub extern "C" fn selectors_vm_attributes(
     input: &[u8],
     outlines: &[u32],
 ) -> Told
-    ensures { (result ≡ replyTold (attributesCall sheet.now program.now (stores rows.old names.old ids.old nodes.old) (isOn self_closing) input.now outlines.now).reply) × (stores rows.new names.new ids.new nodes.new ≡ (attributesCall sheet.now program.now (stores rows.old names.old ids.old nodes.old) (isOn self_closing) input.now outlines.now).after) }
+    ensures { (result ≡ reply_told (attributes_call sheet.now program.now (stores rows.old names.old ids.old nodes.old) (is_on self_closing) input.now outlines.now).reply) × (stores rows.new names.new ids.new nodes.new ≡ (attributes_call sheet.now program.now (stores rows.old names.old ids.old nodes.old) (is_on self_closing) input.now outlines.now).after) }
 {
     tell_reply(resumes::attributes(
         sheet,
@@ -85,7 +85,7 @@ pub extern "C" fn selectors_vm_end(
     name: &[u8],
     popped: &mut [u64],
 ) -> Told
-    ensures { (result ≡ poppedTold (endCall sheet.now program.now (stores rows.old names.now ids.now nodes.now) name.now popped.old).answer) × (rows.new ≡ (endCall sheet.now program.now (stores rows.old names.now ids.now nodes.now) name.now popped.old).rows) × (popped.new ≡ (endCall sheet.now program.now (stores rows.old names.now ids.now nodes.now) name.now popped.old).out) }
+    ensures { (result ≡ popped_told (end_call sheet.now program.now (stores rows.old names.now ids.now nodes.now) name.now popped.old).answer) × (rows.new ≡ (end_call sheet.now program.now (stores rows.old names.now ids.now nodes.now) name.now popped.old).rows) × (popped.new ≡ (end_call sheet.now program.now (stores rows.old names.now ids.now nodes.now) name.now popped.old).out) }
 {
     tell_popped(ends::end(sheet, program, rows, names, ids, nodes, name, popped))
 }
@@ -100,7 +100,7 @@ pub extern "C" fn selectors_vm_id_set(
     ids: &[u64],
     nodes: &[u16],
 ) -> Told
-    ensures { result ≡ topReplyTold (idSetCall sheet.now program.now (stores rows.now names.now ids.now nodes.now)) }
+    ensures { result ≡ top_reply_told (id_set_call sheet.now program.now (stores rows.now names.now ids.now nodes.now)) }
 {
     tell_top_reply(ends::id_set(sheet, program, rows, names, ids, nodes))
 }

@@ -3,19 +3,19 @@
 
 ghost use Rattle.std.specs.Prelude.{◌≡◌};
 ghost use Rattle.stack.specs.Stores.{stores};
-ghost use Rattle.shapes.specs.Shapes.{esiOn, typesCounted, sized, headerShaped, shaped, stateRefusal};
+ghost use Rattle.shapes.specs.Shapes.{esi_on, types_counted, sized, header_shaped, shaped, state_refusal};
 
 use cells::numbers::u16_at;
 use cells::{at32, get32};
 
 pub fn is_esi_on(rows: &[u32]) -> bool
-    ensures { result ≡ esiOn rows.now }
+    ensures { result ≡ esi_on rows.now }
 {
     get32(rows, 14) % 2 == 1
 }
 
 pub fn counts_types(rows: &[u32]) -> bool
-    ensures { result ≡ typesCounted rows.now }
+    ensures { result ≡ types_counted rows.now }
 {
     get32(rows, 14) / 2 % 2 == 1
 }
@@ -38,7 +38,7 @@ pub fn is_sized(rows: &[u32], names: &[u8], ids: &[u64], nodes: &[u16]) -> bool
 
 // 30, the words of the header that a made machine keeps within limits.
 fn is_header_shaped(rows: &[u32], count: usize) -> bool
-    ensures { result ≡ headerShaped rows.now count }
+    ensures { result ≡ header_shaped rows.now count }
 {
     if 256 < at32(rows, 0) {
         return false;
@@ -93,7 +93,7 @@ pub fn state_refusal(
     ids: &[u64],
     nodes: &[u16],
 ) -> u32
-    ensures { result ≡ stateRefusal sheet.now program.now (stores rows.now names.now ids.now nodes.now) }
+    ensures { result ≡ state_refusal sheet.now program.now (stores rows.now names.now ids.now nodes.now) }
 {
     if !is_sized(rows, names, ids, nodes) {
         return 31;

@@ -6,11 +6,11 @@ use native.Mathlib.Numerals.{sub-one}
 use native.Mathlib.Omega.{arith}
 use borrow.Author.Tests.{le-leb, lt-leb}
 use Rattle.cells.specs.Numbers.{be16}
-use Rattle.meaning.specs.Document.{by-link}
+use Rattle.meaning.specs.Document.{by_link}
 use Rattle.meaning.specs.Trees.{Forest, Node, size}
-use Rattle.node_records.specs.Records.{NodeRecord, recordAt, countsAt}
-use Rattle.node_records.specs.Checks.{checkRecord, countsOf}
-use Rattle.sheet.specs.Parser.{Parsed, and_then, afterStep, treeSize, parseTree, parseMany, treeAt, parseTrees, walk_of}
+use Rattle.node_records.specs.Records.{NodeRecord, record_at, counts_at}
+use Rattle.node_records.specs.Checks.{check_record, counts_of}
+use Rattle.sheet.specs.Parser.{Parsed, and_then, after_step, tree_size, parse_tree, parse_many, tree_at, parse_trees, walk_of}
 use Rattle.node_records.specs.declared.Step.{Step}
 use Rattle.node_records.specs.declared.Counts.{Counts}
 use Rattle.sheet.specs.declared.Walk.{Walk}
@@ -18,13 +18,13 @@ use Rattle.sheet.specs.declared.Walk.{Walk}
 -- ---- from a forgotten answer back to what was read
 
 module _ (s : List ℕ) (p : ℕ) where
-  counts-refused : (r : Step) (w q : ℕ) → Counts.Refused w q ≡ countsOf s p r → r ≡ Step.Refused w q
-  unfolding countsOf
+  counts-refused : (r : Step) (w q : ℕ) → Counts.Refused w q ≡ counts_of s p r → r ≡ Step.Refused w q
+  unfolding counts_of
   counts-refused (Step.Refused w' q') w q e = cc
   counts-refused (Step.Next n) w q e = cc
 
-  counts-read : (r : Step) (n c d : ℕ) → Counts.Read n c d ≡ countsOf s p r → (r ≡ Step.Next n) × ((c ≡ be16 s (p + 2)) × (d ≡ be16 s (p + 4)))
-  unfolding countsOf
+  counts-read : (r : Step) (n c d : ℕ) → Counts.Read n c d ≡ counts_of s p r → (r ≡ Step.Next n) × ((c ≡ be16 s (p + 2)) × (d ≡ be16 s (p + 4)))
+  unfolding counts_of
   counts-read (Step.Refused w q) n c d e = (cc, (cc, cc))
   counts-read (Step.Next n') n c d e = (cc, (cc, cc))
 
@@ -42,68 +42,68 @@ module _ {A : Type 0} (nodes : A → ℕ) (used : ℕ) where
 
 -- ---- trees side by side
 
-planted : (t : Node NodeRecord) (used : ℕ) (r : Parsed (Forest NodeRecord)) → walk_of size (used + treeSize t) r ≡ walk_of size used (and_then r (λ siblings q. Parsed.read (Forest.tree t.says t.below siblings) q))
+planted : (t : Node NodeRecord) (used : ℕ) (r : Parsed (Forest NodeRecord)) → walk_of size (used + tree_size t) r ≡ walk_of size used (and_then r (λ siblings q. Parsed.read (Forest.tree t.says t.below siblings) q))
 unfolding walk_of and_then size
 planted t used (Parsed.refused w p) = refl
 planted t used (Parsed.read f n) = ap (Walk.On n) (omega arith)
 
 module _ (s : List ℕ) (total depth : ℕ) where
-  pub trees-none : (n at used : ℕ) → n ≤ 0 → walk_of size used (parseTrees depth s total n at used) ≡ Walk.On at used
-  unfolding walk_of parseTrees parseMany size
+  pub trees-none : (n at used : ℕ) → n ≤ 0 → walk_of size used (parse_trees depth s total n at used) ≡ Walk.On at used
+  unfolding walk_of parse_trees parse_many size
   trees-none zero at used h = ap (Walk.On at) (omega arith)
   trees-none (suc n) at used h = absurd (omega arith)
 
-  pub trees-refused : (n at used : ℕ) → 0 < n → (w p : ℕ) → Walk.Refused w p ≡ walk_of treeSize used (treeAt depth s total at used) → Walk.Refused w p ≡ walk_of size used (parseTrees depth s total n at used)
-  unfolding walk_of and_then parseTrees parseMany
+  pub trees-refused : (n at used : ℕ) → 0 < n → (w p : ℕ) → Walk.Refused w p ≡ walk_of tree_size used (tree_at depth s total at used) → Walk.Refused w p ≡ walk_of size used (parse_trees depth s total n at used)
+  unfolding walk_of and_then parse_trees parse_many
   trees-refused zero at used h w p e = absurd (omega arith)
-  trees-refused (suc n) at used h w p e = simp (walk_refused treeSize used (treeAt depth s total at used) w p e)
+  trees-refused (suc n) at used h w p e = simp (walk_refused tree_size used (tree_at depth s total at used) w p e)
 
-  pub trees-more : (n at used : ℕ) → 0 < n → (m u : ℕ) → Walk.On m u ≡ walk_of treeSize used (treeAt depth s total at used) → walk_of size used (parseTrees depth s total n at used) ≡ walk_of size u (parseTrees depth s total (n - 1) m u)
-  unfolding parseTrees parseMany
+  pub trees-more : (n at used : ℕ) → 0 < n → (m u : ℕ) → Walk.On m u ≡ walk_of tree_size used (tree_at depth s total at used) → walk_of size used (parse_trees depth s total n at used) ≡ walk_of size u (parse_trees depth s total (n - 1) m u)
+  unfolding parse_trees parse_many
   trees-more zero at used h m u e = absurd (omega arith)
   trees-more (suc n) at used h m u e =
-      rw sub-one (sym (walk-on treeSize used (treeAt depth s total at used) _ (walk_of size used) m u _ e
-      (λ t f. rw f (planted t used (parseMany (treeAt depth s total) n m (used + treeSize t))))))
+      rw sub-one (sym (walk-on tree_size used (tree_at depth s total at used) _ (walk_of size used) m u _ e
+      (λ t f. rw f (planted t used (parse_many (tree_at depth s total) n m (used + tree_size t))))))
 
 -- ---- one tree
 
 -- one level down
-level : (s : List ℕ) (total depth at used : ℕ) → 0 < depth → treeAt depth s total at used ≡ parseTree (parseTrees (depth - 1) s total) s total at used
-unfolding treeAt parseTrees
+level : (s : List ℕ) (total depth at used : ℕ) → 0 < depth → tree_at depth s total at used ≡ parse_tree (parse_trees (depth - 1) s total) s total at used
+unfolding tree_at parse_trees
 level s total zero at used h = absurd (omega arith)
 level s total (suc d) at used h = rw sub-one refl
 
-grown : (s : List ℕ) (at used : ℕ) (children : Forest NodeRecord) (r : Parsed (Forest NodeRecord)) → walk_of size (used + 1 + size children) r ≡ walk_of treeSize used (and_then r (λ descendants q. Parsed.read (record { says = recordAt s at; below = by-link (λ _. Forest NodeRecord) children descendants }) q))
+grown : (s : List ℕ) (at used : ℕ) (children : Forest NodeRecord) (r : Parsed (Forest NodeRecord)) → walk_of size (used + 1 + size children) r ≡ walk_of tree_size used (and_then r (λ descendants q. Parsed.read (record { says = record_at s at; below = by_link (λ _. Forest NodeRecord) children descendants }) q))
 unfolding walk_of and_then
 grown s at used children (Parsed.refused w p) = refl
 grown s at used children (Parsed.read f n) = ap (Walk.On n) (omega arith)
 
 module _ (s : List ℕ) (total depth at used : ℕ) where
-  pub too-deep : depth ≡ 0 → Walk.Refused 6 at ≡ walk_of treeSize used (treeAt depth s total at used)
-  unfolding walk_of treeAt
+  pub too-deep : depth ≡ 0 → Walk.Refused 6 at ≡ walk_of tree_size used (tree_at depth s total at used)
+  unfolding walk_of tree_at
   too-deep e = simp e
 
   module _ (deep : 0 < depth) where
-    pub too_many : total ≤ used → Walk.Refused 7 at ≡ walk_of treeSize used (treeAt depth s total at used)
-    unfolding walk_of parseTree
+    pub too_many : total ≤ used → Walk.Refused 7 at ≡ walk_of tree_size used (tree_at depth s total at used)
+    unfolding walk_of parse_tree
     too_many a = simp (level s total depth at used deep, le-leb _ _ a)
 
     module _ (room : used < total) where
-      pub bad-record : (w p : ℕ) → Counts.Refused w p ≡ countsOf s (countsAt s at) (checkRecord s at) → Walk.Refused w p ≡ walk_of treeSize used (treeAt depth s total at used)
-      unfolding walk_of parseTree afterStep
-      bad-record w p e = simp (level s total depth at used deep, lt-leb _ _ room, counts-refused s (countsAt s at) (checkRecord s at) w p e)
+      pub bad-record : (w p : ℕ) → Counts.Refused w p ≡ counts_of s (counts_at s at) (check_record s at) → Walk.Refused w p ≡ walk_of tree_size used (tree_at depth s total at used)
+      unfolding walk_of parse_tree after_step
+      bad-record w p e = simp (level s total depth at used deep, lt-leb _ _ room, counts-refused s (counts_at s at) (check_record s at) w p e)
 
-      module _ {n c d : ℕ} (good : Counts.Read n c d ≡ countsOf s (countsAt s at) (checkRecord s at)) where
-        pub bad-children : (w p : ℕ) → Walk.Refused w p ≡ walk_of size (used + 1) (parseTrees (depth - 1) s total c n (used + 1)) → Walk.Refused w p ≡ walk_of treeSize used (treeAt depth s total at used)
-        unfolding walk_of parseTree afterStep and_then
+      module _ {n c d : ℕ} (good : Counts.Read n c d ≡ counts_of s (counts_at s at) (check_record s at)) where
+        pub bad-children : (w p : ℕ) → Walk.Refused w p ≡ walk_of size (used + 1) (parse_trees (depth - 1) s total c n (used + 1)) → Walk.Refused w p ≡ walk_of tree_size used (tree_at depth s total at used)
+        unfolding walk_of parse_tree after_step and_then
         bad-children w p e =
-            let (x, (y, z)) = counts-read s (countsAt s at) (checkRecord s at) n c d good in
-            simp (level s total depth at used deep, lt-leb _ _ room, x, ← y, walk_refused size (used + 1) (parseTrees (depth - 1) s total c n (used + 1)) w p e)
+            let (x, (y, z)) = counts-read s (counts_at s at) (check_record s at) n c d good in
+            simp (level s total depth at used deep, lt-leb _ _ room, x, ← y, walk_refused size (used + 1) (parse_trees (depth - 1) s total c n (used + 1)) w p e)
 
-        pub then-descendants : {p u : ℕ} → Walk.On p u ≡ walk_of size (used + 1) (parseTrees (depth - 1) s total c n (used + 1)) → walk_of size u (parseTrees (depth - 1) s total d p u) ≡ walk_of treeSize used (treeAt depth s total at used)
-        unfolding parseTree afterStep
+        pub then-descendants : {p u : ℕ} → Walk.On p u ≡ walk_of size (used + 1) (parse_trees (depth - 1) s total c n (used + 1)) → walk_of size u (parse_trees (depth - 1) s total d p u) ≡ walk_of tree_size used (tree_at depth s total at used)
+        unfolding parse_tree after_step
         then-descendants {p} {u} e =
-            let (x, (y, z)) = counts-read s (countsAt s at) (checkRecord s at) n c d good in
+            let (x, (y, z)) = counts-read s (counts_at s at) (check_record s at) n c d good in
             simp (level s total depth at used deep, lt-leb _ _ room, x, ← y, ← z)
-            (walk-on size (used + 1) (parseTrees (depth - 1) s total c n (used + 1)) _ (walk_of treeSize used) p u _ e
-            (λ children f. rw f (grown s at used children (parseTrees (depth - 1) s total d p (used + 1 + size children)))))
+            (walk-on size (used + 1) (parse_trees (depth - 1) s total c n (used + 1)) _ (walk_of tree_size used) p u _ e
+            (λ children f. rw f (grown s at used children (parse_trees (depth - 1) s total d p (used + 1 + size children)))))

@@ -4,40 +4,40 @@ use Rattle.std.proofs.Common.{ap}
 use Rattle.meaning.specs.Elements.{html}
 use Rattle.meaning.specs.Tests.{Tests}
 use Rattle.rules.specs.Attributes.{Attribute}
-use Rattle.node_tests.specs.Tests.{Negatable, TagTest, any, unmatchable, localName, nthChild, nthOfType, AttributeTest, tagHolds, opposite, tagTestHolds, attributeTestHolds}
+use Rattle.node_tests.specs.Tests.{Negatable, TagTest, any, unmatchable, local_name, nth_child, nth_of_type, AttributeTest, tag_holds, opposite, tag_test_holds, attribute_test_holds}
 use Rattle.node_records.specs.Records.{NodeRecord}
 
 -- Kind 5: the only test that looks at the position among siblings of the same name.
-unfoldable pub ofType : TagTest → Bool
-ofType any = false
-ofType unmatchable = false
-ofType (localName name) = false
-ofType (nthChild step offset) = false
-ofType (nthOfType step offset) = true
+unfoldable pub of_type : TagTest → Bool
+of_type any = false
+of_type unmatchable = false
+of_type (local_name name) = false
+of_type (nth_child step offset) = false
+of_type (nth_of_type step offset) = true
 
-same-position : (test : TagTest) → ofType test ≡ false → (name : List ℕ) (position i j : ℕ) → tagHolds name position i test ≡ tagHolds name position j test
-unfolding ofType tagHolds
+same-position : (test : TagTest) → of_type test ≡ false → (name : List ℕ) (position i j : ℕ) → tag_holds name position i test ≡ tag_holds name position j test
+unfolding of_type tag_holds
 same-position any e name position i j = refl
 same-position unmatchable e name position i j = refl
-same-position (localName wanted) e name position i j = refl
-same-position (nthChild step offset) e name position i j = refl
-same-position (nthOfType step offset) e name position i j = cc
+same-position (local_name wanted) e name position i j = refl
+same-position (nth_child step offset) e name position i j = refl
+same-position (nth_of_type step offset) e name position i j = cc
 
-pub not-of-type : (test : Negatable TagTest) → ofType test.test ≡ false → (name : List ℕ) (position i j : ℕ) → tagTestHolds name position i test ≡ tagTestHolds name position j test
-unfolding tagTestHolds
-not-of-type test e name position i j = ap (opposite test.negated) (same-position test.test e name position i j)
+pub not_of_type : (test : Negatable TagTest) → of_type test.test ≡ false → (name : List ℕ) (position i j : ℕ) → tag_test_holds name position i test ≡ tag_test_holds name position j test
+unfolding tag_test_holds
+not_of_type test e name position i j = ap (opposite test.negated) (same-position test.test e name position i j)
 
 -- Nodes, their tests, and when these hold for a tag and its attributes.
-abbrev pub sheetTests : Tests (List Attribute)
-sheetTests = record {
+abbrev pub sheet_tests : Tests (List Attribute)
+sheet_tests = record {
   D = NodeRecord;
   TagTest = Negatable TagTest;
   AttributeTest = Negatable AttributeTest;
   ids = λ node. node.ids;
-  tag-tests = λ node. node.tagTests;
-  attribute-tests = λ node. node.attributeTests;
-  tag-test = λ test position position-of-name tag. tagTestHolds tag.name position position-of-name test;
-  attribute-test = λ test tag attributes. attributeTestHolds (html tag) attributes test;
-  of-type = λ test. ofType test.test;
-  not-of-type = λ test e position i j tag. not-of-type test e tag.name position i j;
+  tag_tests = λ node. node.tag_tests;
+  attribute_tests = λ node. node.attribute_tests;
+  tag_test = λ test position position_of_name tag. tag_test_holds tag.name position position_of_name test;
+  attribute_test = λ test tag attributes. attribute_test_holds (html tag) attributes test;
+  of_type = λ test. of_type test.test;
+  not_of_type = λ test e position i j tag. not_of_type test e tag.name position i j;
 }

@@ -3,7 +3,7 @@
 
 ghost use Rattle.std.specs.Prelude.{◌≡◌, ◌≤◌, length};
 ghost use Rattle.meaning.specs.Trees.{size};
-ghost use Rattle.sheet.specs.Parser.{walk_of, treeSize, treeAt, parseTrees, checkedOf, parseSheet};
+ghost use Rattle.sheet.specs.Parser.{walk_of, tree_size, tree_at, parse_trees, checked_of, parse_sheet};
 
 use cells::at8;
 use cells::numbers::{u16_at, u32_at};
@@ -27,7 +27,7 @@ pub enum Checked {
 #[cycle(check_tree_check_trees)]
 fn check_tree(s: &[u8], total: usize, depth: usize, at: usize, used: usize) -> Walk
     requires { 2 ≤ length s.now }
-    ensures { result ≡ walk_of treeSize used (treeAt depth s.now total at used) }
+    ensures { result ≡ walk_of tree_size used (tree_at depth s.now total at used) }
 {
     if depth == 0 {
         return Walk::Refused(6, at);
@@ -52,7 +52,7 @@ fn check_tree(s: &[u8], total: usize, depth: usize, at: usize, used: usize) -> W
 #[cycle(check_tree_check_trees)]
 fn check_trees(s: &[u8], total: usize, depth: usize, count: usize, at: usize, used: usize) -> Walk
     requires { 2 ≤ length s.now }
-    ensures { result ≡ walk_of size used (parseTrees depth s.now total count at used) }
+    ensures { result ≡ walk_of size used (parse_trees depth s.now total count at used) }
 {
     let mut left = count;
     let mut here = at;
@@ -74,7 +74,7 @@ fn check_trees(s: &[u8], total: usize, depth: usize, count: usize, at: usize, us
 
 /// Any bytes are answered: good, or the first fault's number and place.
 pub fn check_sheet(s: &[u8]) -> Checked
-    ensures { result ≡ checkedOf (parseSheet s.now) }
+    ensures { result ≡ checked_of (parse_sheet s.now) }
 {
     if s.len() < 9 {
         return Checked::Refused(1, 0);

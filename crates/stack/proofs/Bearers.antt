@@ -9,17 +9,17 @@ use borrow.Author.Tests.{le-leb, lt-leb}
 use lib.ListN.{length, get_or, drop, length-append}
 use lib.Seq.{drop-cons, drop-length}
 use lib.Dec.{ltb}
-use Rattle.stack.specs.Stores.{instructionAt, blockLength, bears, bearers}
+use Rattle.stack.specs.Stores.{instruction_at, block_length, bears, bearers}
 use Rattle.stack.specs.Laws.{bearers-few, bearers-one}
 
 -- ---- one block
-module _ (program : List ℕ) (limit w a first count : ℕ) (ec : count ≡ get_or program (instructionAt a + w + 1) 0) (ef : first ≡ get_or program (instructionAt a + w) 0) where
+module _ (program : List ℕ) (limit w a first count : ℕ) (ec : count ≡ get_or program (instruction_at a + w + 1) 0) (ef : first ≡ get_or program (instruction_at a + w) 0) where
   pub block_within : first + count ≤ limit → ltb 0 count ≡ bears program limit w a
-  unfolding bears blockLength
+  unfolding bears block_length
   block_within h = sym (rw (← ec, ← ef, le-leb _ _ h))
 
   pub block-outside : limit < first + count → false ≡ bears program limit w a
-  unfolding bears blockLength
+  unfolding bears block_length
   block-outside h = sym (rw (← ec, ← ef, lt-leb _ _ h))
 
 -- ---- one node

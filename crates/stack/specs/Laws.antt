@@ -2,17 +2,17 @@
 use Rattle.std.specs.Prelude.{◌≡◌, refl, Bool, true, false, cond, List, [], ◌∷◌, ◌++◌, ℕ, zero, suc, ◌+◌, ◌<◌, ◌≤◌, length, set, drop}
 use Rattle.std.proofs.Common.{sym, arith, add-one, lt-ltb, drop-cons}
 use Rattle.std.proofs.Math.Seq.{drop-length}
-use Rattle.cells.specs.Stretches.{cellsFrom, written}
-use Rattle.stack.specs.Stores.{countLimit, oneMore, bears, bearers, listed, newAncestors, descendantBlock}
+use Rattle.cells.specs.Stretches.{cells_from, written}
+use Rattle.stack.specs.Stores.{count_limit, one_more, bears, bearers, listed, new_ancestors, descendant_block}
 
 -- ---- stretches
-cells-from : (xs : List ℕ) (i n : ℕ) → i + n ≡ length xs → cellsFrom xs i n ≡ drop i xs
-unfolding cellsFrom
+cells-from : (xs : List ℕ) (i n : ℕ) → i + n ≡ length xs → cells_from xs i n ≡ drop i xs
+unfolding cells_from
 cells-from xs i zero e = let f : i ≡ length xs = omega arith in rw f (sym (drop-length xs))
 cells-from xs i (suc n) e = rw (drop-cons xs i 0 (omega arith), cells-from xs (i + 1) n (omega arith), add-one i)
 
 -- all cells of a list are the list
-pub cells-all : (xs : List ℕ) → cellsFrom xs 0 (length xs) ≡ xs
+pub cells-all : (xs : List ℕ) → cells_from xs 0 (length xs) ≡ xs
 cells-all xs = cells-from xs 0 (length xs) (omega arith)
 
 pub written-cat : (xs : List ℕ) (a : ℕ) (vs ws : List ℕ) → written xs a (vs ++ ws) ≡ written (written xs a vs) (a + length vs) ws
@@ -21,9 +21,9 @@ written-cat xs a [] ws = let e : a + 0 ≡ a = omega arith in rw e
 written-cat xs a (v ∷ vs) ws = let e : a + suc (length vs) ≡ a + 1 + length vs = omega arith in rw e (written-cat (set xs a v) (a + 1) vs ws)
 
 -- ---- a count that is not full rises by one
-pub one_more : (n : ℕ) → n < countLimit → oneMore n ≡ n + 1
-unfolding oneMore
-one_more n h = rw (lt-ltb _ _ h)
+pub one_more_lem : (n : ℕ) → n < count_limit → one_more n ≡ n + 1
+unfolding one_more
+one_more_lem n h = rw (lt-ltb _ _ h)
 
 -- ---- the nodes that are kept are at most those that were found, and kept one by one
 pub bearers-few : (program : List ℕ) (limit w : ℕ) (found : List ℕ) → length (bearers program limit w found) ≤ length found
@@ -43,23 +43,23 @@ bearers-one program limit w a found = go (bears program limit w a)
     go true = refl
     go false = refl
 
-pub ancestors-few : (old program : List ℕ) (limit : ℕ) (found : List ℕ) → length (newAncestors old program limit found) ≤ length found
-unfolding newAncestors
-ancestors-few old program limit [] = omega arith
-ancestors-few old program limit (a ∷ found) = go (bears program limit descendantBlock a) (listed a old) (ancestors-few old program limit found)
+pub ancestors_few : (old program : List ℕ) (limit : ℕ) (found : List ℕ) → length (new_ancestors old program limit found) ≤ length found
+unfolding new_ancestors
+ancestors_few old program limit [] = omega arith
+ancestors_few old program limit (a ∷ found) = go (bears program limit descendant_block a) (listed a old) (ancestors_few old program limit found)
   where
-    go : (b c : Bool) → length (newAncestors old program limit found) ≤ length found
-        → length (cond b (cond c (newAncestors old program limit found) (a ∷ newAncestors old program limit found)) (newAncestors old program limit found)) ≤ suc (length found)
+    go : (b c : Bool) → length (new_ancestors old program limit found) ≤ length found
+        → length (cond b (cond c (new_ancestors old program limit found) (a ∷ new_ancestors old program limit found)) (new_ancestors old program limit found)) ≤ suc (length found)
     go true true h = omega arith
     go true false h = omega arith
     go false c h = omega arith
 
-pub ancestors-one : (old program : List ℕ) (limit a : ℕ) (found : List ℕ) → newAncestors old program limit (a ∷ found) ≡ newAncestors old program limit (a ∷ []) ++ newAncestors old program limit found
-unfolding newAncestors
-ancestors-one old program limit a found = go (bears program limit descendantBlock a) (listed a old)
+pub ancestors-one : (old program : List ℕ) (limit a : ℕ) (found : List ℕ) → new_ancestors old program limit (a ∷ found) ≡ new_ancestors old program limit (a ∷ []) ++ new_ancestors old program limit found
+unfolding new_ancestors
+ancestors-one old program limit a found = go (bears program limit descendant_block a) (listed a old)
   where
-    go : (b c : Bool) → cond b (cond c (newAncestors old program limit found) (a ∷ newAncestors old program limit found)) (newAncestors old program limit found)
-        ≡ cond b (cond c [] (a ∷ [])) [] ++ newAncestors old program limit found
+    go : (b c : Bool) → cond b (cond c (new_ancestors old program limit found) (a ∷ new_ancestors old program limit found)) (new_ancestors old program limit found)
+        ≡ cond b (cond c [] (a ∷ [])) [] ++ new_ancestors old program limit found
     go true true = refl
     go true false = refl
     go false c = refl

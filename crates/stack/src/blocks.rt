@@ -1,6 +1,6 @@
 //! Which nodes have trees in a block of the instruction store, and how many of the found nodes have child trees.
 ghost use Rattle.std.specs.Prelude.{◌≡◌, [], ◌∷◌, ◌<◌, ◌≤◌, length};
-ghost use Rattle.stack.specs.Stores.{childBlock, bears, bearers};
+ghost use Rattle.stack.specs.Stores.{child_block, bears, bearers};
 
 use crate::{CHILD_BLOCK, INSTRUCTION};
 use cells::at32;
@@ -19,7 +19,7 @@ pub fn has_block(program: &[u32], limit: usize, w: usize, node: u16) -> bool
 }
 
 fn count_parent(program: &[u32], limit: usize, node: u16) -> usize
-    ensures { (result ≡ length (bearers program.now limit childBlock (node ∷ []))) × (result ≤ 1) }
+    ensures { (result ≡ length (bearers program.now limit child_block (node ∷ []))) × (result ≤ 1) }
 {
     if has_block(program, limit, CHILD_BLOCK, node) {
         return 1;
@@ -29,7 +29,7 @@ fn count_parent(program: &[u32], limit: usize, node: u16) -> usize
 
 // How many of the found nodes have child trees.
 pub fn count_parents(program: &[u32], limit: usize, found: &[u16]) -> usize
-    ensures { (result ≡ length (bearers program.now limit childBlock found.now)) × (result ≤ length found.now) }
+    ensures { (result ≡ length (bearers program.now limit child_block found.now)) × (result ≤ length found.now) }
 {
     let mut k = 0;
     let mut i = 0;

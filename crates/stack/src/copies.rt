@@ -1,12 +1,12 @@
 //! Cells of one store written into another, cell by cell.
 ghost use Rattle.std.specs.Prelude.{◌≡◌, ◌<◌, ◌^◌};
-ghost use Rattle.cells.specs.Stretches.{cellsFrom, written};
+ghost use Rattle.cells.specs.Stretches.{cells_from, written};
 
 use cells::{get8, get16, get32, get64, put8, put16, put32, put64};
 
 pub fn copy8(from: &[u8], start: usize, n: usize, to: &mut [u8], at: usize)
     requires { (start < 2 ^ 48) × (n < 2 ^ 48) × (at < 2 ^ 48) }
-    ensures { to.new ≡ written to.old at (cellsFrom from.now start n) }
+    ensures { to.new ≡ written to.old at (cells_from from.now start n) }
 {
     let mut i = 0;
     while i < n {
@@ -17,7 +17,7 @@ pub fn copy8(from: &[u8], start: usize, n: usize, to: &mut [u8], at: usize)
 
 pub fn copy16(from: &[u16], start: usize, n: usize, to: &mut [u16], at: usize)
     requires { (start < 2 ^ 48) × (n < 2 ^ 48) × (at < 2 ^ 48) }
-    ensures { to.new ≡ written to.old at (cellsFrom from.now start n) }
+    ensures { to.new ≡ written to.old at (cells_from from.now start n) }
 {
     let mut i = 0;
     while i < n {
@@ -28,7 +28,7 @@ pub fn copy16(from: &[u16], start: usize, n: usize, to: &mut [u16], at: usize)
 
 pub fn copy32(from: &[u32], start: usize, n: usize, to: &mut [u32], at: usize)
     requires { (start < 2 ^ 48) × (n < 2 ^ 48) × (at < 2 ^ 48) }
-    ensures { to.new ≡ written to.old at (cellsFrom from.now start n) }
+    ensures { to.new ≡ written to.old at (cells_from from.now start n) }
 {
     let mut i = 0;
     while i < n {
@@ -39,7 +39,7 @@ pub fn copy32(from: &[u32], start: usize, n: usize, to: &mut [u32], at: usize)
 
 pub fn copy64(from: &[u64], start: usize, n: usize, to: &mut [u64], at: usize)
     requires { (start < 2 ^ 48) × (n < 2 ^ 48) × (at < 2 ^ 48) }
-    ensures { to.new ≡ written to.old at (cellsFrom from.now start n) }
+    ensures { to.new ≡ written to.old at (cells_from from.now start n) }
 {
     let mut i = 0;
     while i < n {

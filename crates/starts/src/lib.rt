@@ -2,11 +2,11 @@
 #![tactic(auto)]
 
 ghost use Rattle.std.specs.Prelude.{◌≡◌, ◌≤◌, length};
-ghost use Rattle.sheet.specs.Parser.{nodeCount};
-ghost use Rattle.stack.specs.Stores.{stores, opens, parentsTop, ancestorsTop};
+ghost use Rattle.sheet.specs.Parser.{node_count};
+ghost use Rattle.stack.specs.Stores.{stores, opens, parents_top, ancestors_top};
 ghost use Rattle.accepting.specs.Accepting.{outcome};
 ghost use Rattle.tags.specs.Tags.{lowered};
-ghost use Rattle.starts.specs.Starts.{startCall};
+ghost use Rattle.starts.specs.Starts.{start_call};
 
 use accepting::{Reply, refused};
 use course::{begin_scan, kind_of};
@@ -26,7 +26,7 @@ fn start_lowered(
     name: &[u8],
     kind: u32,
 ) -> Reply
-    requires { (opens rows.old ≤ 256) × (parentsTop rows.old ≤ 4096) × (ancestorsTop rows.old ≤ 1024) × (length name.now ≤ 63) × (nodeCount sheet.now ≤ 1024) }
+    requires { (opens rows.old ≤ 256) × (parents_top rows.old ≤ 4096) × (ancestors_top rows.old ≤ 1024) × (length name.now ≤ 63) × (node_count sheet.now ≤ 1024) }
     ensures { outcome result (stores rows.new names.new ids.new nodes.new) ≡ lowered sheet.now program.now (stores rows.old names.old ids.old nodes.old) name.now kind }
 {
     if are_pairs_full(rows, names, name) {
@@ -62,7 +62,7 @@ pub fn start(
     namespace: u32,
     name: &[u8],
 ) -> Reply
-    ensures { outcome result (stores rows.new names.new ids.new nodes.new) ≡ startCall sheet.now program.now (stores rows.old names.old ids.old nodes.old) namespace name.now }
+    ensures { outcome result (stores rows.new names.new ids.new nodes.new) ≡ start_call sheet.now program.now (stores rows.old names.old ids.old nodes.old) namespace name.now }
 {
     let state = state_refusal(sheet, program, rows, names, ids, nodes);
     if state != 0 {

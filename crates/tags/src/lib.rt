@@ -2,9 +2,9 @@
 #![tactic(auto)]
 
 ghost use Rattle.std.specs.Prelude.{◌≡◌, ◌≤◌, length};
-ghost use Rattle.stack.specs.Stores.{stores, opens, parentsTop, ancestorsTop, released};
+ghost use Rattle.stack.specs.Stores.{stores, opens, parents_top, ancestors_top, released};
 ghost use Rattle.accepting.specs.Accepting.{outcome};
-ghost use Rattle.tags.specs.Tags.{soughtOf, whole, begun};
+ghost use Rattle.tags.specs.Tags.{sought_of, whole, begun};
 
 use accepting::{Answer, Reply, accept, refused};
 use course::has_content;
@@ -24,7 +24,7 @@ fn finish(
     content: bool,
     found: &[u16],
 ) -> Reply
-    requires { (opens rows.old ≤ 256) × (parentsTop rows.old ≤ 4096) × (ancestorsTop rows.old ≤ 1024) × (length name.now ≤ 63) × (length found.now ≤ 1024) }
+    requires { (opens rows.old ≤ 256) × (parents_top rows.old ≤ 4096) × (ancestors_top rows.old ≤ 1024) × (length name.now ≤ 63) × (length found.now ≤ 1024) }
     ensures { outcome result (stores rows.new names.new ids.new nodes.new) ≡ whole sheet.now program.now (stores rows.old names.old ids.old nodes.old) (stores rows.old names.old ids.old nodes.old) name.now content found.now }
 {
     let r = push_refusal(sheet, program, rows, content, found);
@@ -50,8 +50,8 @@ pub fn start_found(
     stuck: bool,
     cursor: Cursor,
 ) -> Reply
-    requires { (opens rows.old ≤ 256) × (parentsTop rows.old ≤ 4096) × (ancestorsTop rows.old ≤ 1024) × (length name.now ≤ 63) × (length found.now ≤ 1024) }
-    ensures { outcome result (stores rows.new names.new ids.new nodes.new) ≡ begun sheet.now program.now (stores rows.old names.old ids.old nodes.old) name.now kind (soughtOf found.now stuck cursor) }
+    requires { (opens rows.old ≤ 256) × (parents_top rows.old ≤ 4096) × (ancestors_top rows.old ≤ 1024) × (length name.now ≤ 63) × (length found.now ≤ 1024) }
+    ensures { outcome result (stores rows.new names.new ids.new nodes.new) ≡ begun sheet.now program.now (stores rows.old names.old ids.old nodes.old) name.now kind (sought_of found.now stuck cursor) }
 {
     if stuck {
         let stage = cursor.stage;
@@ -82,7 +82,7 @@ pub fn finish_held(
     content: bool,
     found: &[u16],
 ) -> Reply
-    requires { (opens rows.old ≤ 256) × (parentsTop rows.old ≤ 4096) × (ancestorsTop rows.old ≤ 1024) × (length name.now ≤ 63) × (length found.now ≤ 1024) }
+    requires { (opens rows.old ≤ 256) × (parents_top rows.old ≤ 4096) × (ancestors_top rows.old ≤ 1024) × (length name.now ≤ 63) × (length found.now ≤ 1024) }
     ensures { outcome result (stores rows.new names.new ids.new nodes.new) ≡ whole sheet.now program.now (stores rows.old names.old ids.old nodes.old) (released (stores rows.old names.old ids.old nodes.old)) name.now content found.now }
 {
     let r = push_refusal(sheet, program, rows, content, found);

@@ -2,7 +2,7 @@
 #![tactic(auto)]
 
 ghost use Rattle.std.specs.Prelude.{◌≡◌};
-ghost use Rattle.told.specs.Told.{madeTold, answerTold, replyTold, poppedTold, topTold, topReplyTold};
+ghost use Rattle.told.specs.Told.{made_told, answer_told, reply_told, popped_told, top_told, top_reply_told};
 
 use accepting::{Answer, Reply};
 use ends::{Popped, Top, TopReply};
@@ -20,7 +20,7 @@ pub struct Told {
 }
 
 pub fn tell_made(made: Made) -> Told
-    ensures { result ≡ madeTold made }
+    ensures { result ≡ made_told made }
 {
     match made {
         Made::Made => Told {
@@ -48,7 +48,7 @@ pub fn tell_made(made: Made) -> Told
 }
 
 fn tell_answer(answer: Answer, low: u64, high: u64) -> Told
-    ensures { result ≡ answerTold answer low high }
+    ensures { result ≡ answer_told answer low high }
 {
     match answer {
         Answer::Match(content) => Told {
@@ -76,7 +76,7 @@ fn tell_answer(answer: Answer, low: u64, high: u64) -> Told
 }
 
 pub fn tell_reply(reply: Reply) -> Told
-    ensures { result ≡ replyTold reply }
+    ensures { result ≡ reply_told reply }
 {
     let answer = reply.answer;
     let words = reply.ids;
@@ -84,7 +84,7 @@ pub fn tell_reply(reply: Reply) -> Told
 }
 
 pub fn tell_popped(popped: Popped) -> Told
-    ensures { result ≡ poppedTold popped }
+    ensures { result ≡ popped_told popped }
 {
     match popped {
         Popped::Elements(count) => Told {
@@ -105,7 +105,7 @@ pub fn tell_popped(popped: Popped) -> Told
 }
 
 fn tell_top(top: Top, low: u64, high: u64) -> Told
-    ensures { result ≡ topTold top low high }
+    ensures { result ≡ top_told top low high }
 {
     match top {
         Top::Ids => Told {
@@ -133,7 +133,7 @@ fn tell_top(top: Top, low: u64, high: u64) -> Told
 }
 
 pub fn tell_top_reply(reply: TopReply) -> Told
-    ensures { result ≡ topReplyTold reply }
+    ensures { result ≡ top_reply_told reply }
 {
     let top = reply.top;
     let words = reply.ids;

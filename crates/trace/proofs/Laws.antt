@@ -9,21 +9,21 @@ use borrow.Author.Tests.{lt-ltb, le-ltb, ltb-false, lt-leb, le-leb}
 use lib.Dec.{ltb}
 use lib.ListN.{length}
 use Rattle.cells.specs.Numbers.{part, be16}
-use Rattle.records.specs.Records.{recordEnd}
+use Rattle.records.specs.Records.{record_end}
 use Rattle.records.specs.declared.Cut.{Cut}
 use Rattle.stack.specs.Stores.{Stores}
 use Rattle.answers.specs.Answers.{turn_of}
 use Rattle.replies.specs.Replies.{answered, Within, saying}
-use Rattle.block_ends.specs.BlockEnds.{fed, badFed, badOut, cutFed, cutOut, beginOf, Inside}
-use Rattle.trace.specs.Run.{Ran, ran, onCut, onSaid, answersFrom, feedBy, feedOf}
+use Rattle.block_ends.specs.BlockEnds.{fed, bad_fed, bad_out, cut_fed, cut_out, begin_of, Inside}
+use Rattle.trace.specs.Run.{Ran, ran, on_cut, on_said, answers_from, feed_by, feed_of}
 use Rattle.replies.specs.declared.Said.{Said}
 use Rattle.block_ends.specs.declared.Begin.{Begin}
 use Rattle.block_ends.specs.declared.Fed.{Fed}
 use Rattle.block_ends.specs.declared.Halt.{Halt}
 
 -- a whole record lies in its block
-pub end-bounds : (block : List ℕ) (at : ℕ) (cut : Cut) (end : ℕ) → cut ≡ recordEnd block at → cut ≡ Cut.Whole end → (at + 2 ≤ end) × (end ≤ length block)
-unfolding recordEnd
+pub end-bounds : (block : List ℕ) (at : ℕ) (cut : Cut) (end : ℕ) → cut ≡ record_end block at → cut ≡ Cut.Whole end → (at + 2 ≤ end) × (end ≤ length block)
+unfolding record_end
 end-bounds block at cut end e f = by (ltb (length block) (at + 2 + be16 block at)) refl (sym f ∙ e)
   where
     by : (b : Bool) → ltb (length block) (at + 2 + be16 block at) ≡ b → Cut.Whole end ≡ cond b Cut.Short (Cut.Whole (at + 2 + be16 block at)) → (at + 2 ≤ end) × (end ≤ length block)
@@ -37,45 +37,45 @@ pub line-bound : (n next : ℕ) (said : Said) → said ≡ Said.Line next → Wi
 line-bound n next said e w = subst (λ (x : Said). Within n x) e w
 
 module _ (sheet program block : List ℕ) (last : Bool) (place : ℕ) where
-  pub run-done : (n at wrote : ℕ) (out : List ℕ) (s : Stores) → length block ≤ at → ran (fed at wrote Halt.Hungry) out s ≡ answersFrom sheet program block last place n at wrote out s
-  unfolding answersFrom
+  pub run-done : (n at wrote : ℕ) (out : List ℕ) (s : Stores) → length block ≤ at → ran (fed at wrote Halt.Hungry) out s ≡ answers_from sheet program block last place n at wrote out s
+  unfolding answers_from
   run-done zero at wrote out s h = refl
   run-done (suc n) at wrote out s h = simp (le-leb _ _ h)
 
-  pub run-full : (n at wrote : ℕ) (out : List ℕ) (s : Stores) → 0 < n → at < length block → length out - wrote < 8192 → ran (fed at wrote Halt.Full) out s ≡ answersFrom sheet program block last place n at wrote out s
-  unfolding answersFrom
+  pub run-full : (n at wrote : ℕ) (out : List ℕ) (s : Stores) → 0 < n → at < length block → length out - wrote < 8192 → ran (fed at wrote Halt.Full) out s ≡ answers_from sheet program block last place n at wrote out s
+  unfolding answers_from
   run-full zero at wrote out s p h g = absurd (omega arith)
   run-full (suc n) at wrote out s p h g = simp (lt-leb _ _ h, lt-ltb _ _ g)
 
-  pub run-cut : (n at wrote : ℕ) (out : List ℕ) (s : Stores) → 0 < n → at < length block → 8192 ≤ length out - wrote → (cut : Cut) → cut ≡ recordEnd block at → cut ≡ Cut.Short
-      → (r : Fed) (o : List ℕ) → r ≡ cutFed last place at wrote → o ≡ cutOut last place at wrote out → ran r o s ≡ answersFrom sheet program block last place n at wrote out s
-  unfolding answersFrom onCut
+  pub run-cut : (n at wrote : ℕ) (out : List ℕ) (s : Stores) → 0 < n → at < length block → 8192 ≤ length out - wrote → (cut : Cut) → cut ≡ record_end block at → cut ≡ Cut.Short
+      → (r : Fed) (o : List ℕ) → r ≡ cut_fed last place at wrote → o ≡ cut_out last place at wrote out → ran r o s ≡ answers_from sheet program block last place n at wrote out s
+  unfolding answers_from on_cut
   run-cut zero at wrote out s p h g cut e f r o a b = absurd (omega arith)
   run-cut (suc n) at wrote out s p h g cut e f r o a b = simp (lt-leb _ _ h, le-ltb _ _ g, ← e, f) (λ i. ran (a i) (b i) s)
 
-  pub run-faulty : (n at wrote : ℕ) (out : List ℕ) (s : Stores) → 0 < n → at < length block → 8192 ≤ length out - wrote → (cut : Cut) (end : ℕ) → cut ≡ recordEnd block at → cut ≡ Cut.Whole end
+  pub run-faulty : (n at wrote : ℕ) (out : List ℕ) (s : Stores) → 0 < n → at < length block → 8192 ≤ length out - wrote → (cut : Cut) (end : ℕ) → cut ≡ record_end block at → cut ≡ Cut.Whole end
       → (body : List ℕ) → body ≡ part block (at + 2) end → (said : Said) (o₁ : List ℕ) (s₁ : Stores) → answered said o₁ s₁ ≡ saying (turn_of sheet program s body) out wrote → said ≡ Said.Faulty
-      → (r : Fed) (o : List ℕ) → r ≡ badFed place at wrote → o ≡ badOut place at wrote o₁ → ran r o s₁ ≡ answersFrom sheet program block last place n at wrote out s
-  unfolding answersFrom onCut onSaid
+      → (r : Fed) (o : List ℕ) → r ≡ bad_fed place at wrote → o ≡ bad_out place at wrote o₁ → ran r o s₁ ≡ answers_from sheet program block last place n at wrote out s
+  unfolding answers_from on_cut on_said
   run-faulty zero at wrote out s p h g cut end e f body q said o₁ s₁ t u r o a b = absurd (omega arith)
   run-faulty (suc n) at wrote out s p h g cut end e f body q said o₁ s₁ t u r o a b = simp (lt-leb _ _ h, le-ltb _ _ g, ← e, f, ← q, ← t, u) (λ i. ran (a i) (b i) s₁)
 
-  pub run_more : (n at wrote : ℕ) (out : List ℕ) (s : Stores) → 0 < n → at < length block → 8192 ≤ length out - wrote → (cut : Cut) (end : ℕ) → cut ≡ recordEnd block at → cut ≡ Cut.Whole end
+  pub run_more : (n at wrote : ℕ) (out : List ℕ) (s : Stores) → 0 < n → at < length block → 8192 ≤ length out - wrote → (cut : Cut) (end : ℕ) → cut ≡ record_end block at → cut ≡ Cut.Whole end
       → (body : List ℕ) → body ≡ part block (at + 2) end → (said : Said) (next : ℕ) (o₁ : List ℕ) (s₁ : Stores) → answered said o₁ s₁ ≡ saying (turn_of sheet program s body) out wrote → said ≡ Said.Line next
-      → answersFrom sheet program block last place n at wrote out s ≡ answersFrom sheet program block last place (n - 1) end next o₁ s₁
-  unfolding answersFrom onCut onSaid
+      → answers_from sheet program block last place n at wrote out s ≡ answers_from sheet program block last place (n - 1) end next o₁ s₁
+  unfolding answers_from on_cut on_said
   run_more zero at wrote out s p h g cut end e f body q said next o₁ s₁ t u = absurd (omega arith)
   run_more (suc n) at wrote out s p h g cut end e f body q said next o₁ s₁ t u = rw sub-one (simp (lt-leb _ _ h, le-ltb _ _ g, ← e, f, ← q, ← t, u))
 
 -- ---- the version, then the records
 
-module _ (sheet program block : List ℕ) (last : Bool) (place : ℕ) (out : List ℕ) (s : Stores) (b : Begin) (e : b ≡ beginOf block last place) where
-  pub feed-at : (first : ℕ) → b ≡ Begin.At first → (x : Ran) → x ≡ answersFrom sheet program block last place (length block) first 0 out s → x ≡ feedOf sheet program block last place out s
-  unfolding feedOf feedBy
+module _ (sheet program block : List ℕ) (last : Bool) (place : ℕ) (out : List ℕ) (s : Stores) (b : Begin) (e : b ≡ begin_of block last place) where
+  pub feed-at : (first : ℕ) → b ≡ Begin.At first → (x : Ran) → x ≡ answers_from sheet program block last place (length block) first 0 out s → x ≡ feed_of sheet program block last place out s
+  unfolding feed_of feed_by
   feed-at first f x q = rw (← e, f) q
 
-  pub feed-not : (faulty : Bool) → b ≡ Begin.Not faulty → (r : Fed) (o : List ℕ) → r ≡ cutFed faulty 0 0 0 → o ≡ cutOut faulty 0 0 0 out → ran r o s ≡ feedOf sheet program block last place out s
-  unfolding feedOf feedBy
+  pub feed-not : (faulty : Bool) → b ≡ Begin.Not faulty → (r : Fed) (o : List ℕ) → r ≡ cut_fed faulty 0 0 0 → o ≡ cut_out faulty 0 0 0 out → ran r o s ≡ feed_of sheet program block last place out s
+  unfolding feed_of feed_by
   feed-not faulty f r o p q = rw (← e, f) (λ i. ran (p i) (q i) s)
 
 pub begin-bound : (n first : ℕ) (b : Begin) → b ≡ Begin.At first → Inside n b → first ≤ n
@@ -85,7 +85,7 @@ begin-bound n first b e w = subst (λ (x : Begin). Inside n x) e w
 pub record Left (sheet program block : List ℕ) (last : Bool) (place first : ℕ) (out₀ : List ℕ) (s₀ : Stores) (at wrote : ℕ) (out : List ℕ) (s : Stores) : Type 0 where
   pub n : ℕ
   pub enough : length block ≤ at + n
-  pub same : answersFrom sheet program block last place (length block) first 0 out₀ s₀ ≡ answersFrom sheet program block last place n at wrote out s
+  pub same : answers_from sheet program block last place (length block) first 0 out₀ s₀ ≡ answers_from sheet program block last place n at wrote out s
 
 pub left-start : (sheet program block : List ℕ) (last : Bool) (place first : ℕ) (out₀ : List ℕ) (s₀ : Stores) → Left sheet program block last place first out₀ s₀ first 0 out₀ s₀
 left-start sheet program block last place first out₀ s₀ = record { n = length block; enough = omega arith; same = refl }
@@ -94,20 +94,20 @@ module _ (sheet program block : List ℕ) (last : Bool) (place first : ℕ) (out
   some_left : at < length block → 0 < l.n
   some_left h = let e = l.enough in omega arith
 
-  pub left-done : length block ≤ at → ran (fed at wrote Halt.Hungry) out s ≡ answersFrom sheet program block last place (length block) first 0 out₀ s₀
+  pub left-done : length block ≤ at → ran (fed at wrote Halt.Hungry) out s ≡ answers_from sheet program block last place (length block) first 0 out₀ s₀
   left-done h = run-done sheet program block last place l.n at wrote out s h ∙ sym l.same
 
-  pub left-full : at < length block → length out - wrote < 8192 → ran (fed at wrote Halt.Full) out s ≡ answersFrom sheet program block last place (length block) first 0 out₀ s₀
+  pub left-full : at < length block → length out - wrote < 8192 → ran (fed at wrote Halt.Full) out s ≡ answers_from sheet program block last place (length block) first 0 out₀ s₀
   left-full h g = run-full sheet program block last place l.n at wrote out s (some_left h) h g ∙ sym l.same
 
-  module _ (h : at < length block) (g : 8192 ≤ length out - wrote) (cut : Cut) (e : cut ≡ recordEnd block at) where
-    pub left_cut : cut ≡ Cut.Short → (r : Fed) (o : List ℕ) → r ≡ cutFed last place at wrote → o ≡ cutOut last place at wrote out
-        → ran r o s ≡ answersFrom sheet program block last place (length block) first 0 out₀ s₀
+  module _ (h : at < length block) (g : 8192 ≤ length out - wrote) (cut : Cut) (e : cut ≡ record_end block at) where
+    pub left_cut : cut ≡ Cut.Short → (r : Fed) (o : List ℕ) → r ≡ cut_fed last place at wrote → o ≡ cut_out last place at wrote out
+        → ran r o s ≡ answers_from sheet program block last place (length block) first 0 out₀ s₀
     left_cut f r o a b = run-cut sheet program block last place l.n at wrote out s (some_left h) h g cut e f r o a b ∙ sym l.same
 
     module _ (end : ℕ) (f : cut ≡ Cut.Whole end) (body : List ℕ) (q : body ≡ part block (at + 2) end) (said : Said) (o₁ : List ℕ) (s₁ : Stores) (t : answered said o₁ s₁ ≡ saying (turn_of sheet program s body) out wrote) where
-      pub left-faulty : said ≡ Said.Faulty → (r : Fed) (o : List ℕ) → r ≡ badFed place at wrote → o ≡ badOut place at wrote o₁
-          → ran r o s₁ ≡ answersFrom sheet program block last place (length block) first 0 out₀ s₀
+      pub left-faulty : said ≡ Said.Faulty → (r : Fed) (o : List ℕ) → r ≡ bad_fed place at wrote → o ≡ bad_out place at wrote o₁
+          → ran r o s₁ ≡ answers_from sheet program block last place (length block) first 0 out₀ s₀
       left-faulty u r o a b = run-faulty sheet program block last place l.n at wrote out s (some_left h) h g cut end e f body q said o₁ s₁ t u r o a b ∙ sym l.same
 
       pub left-more : (next : ℕ) → said ≡ Said.Line next → Left sheet program block last place first out₀ s₀ end next o₁ s₁

@@ -1,13 +1,13 @@
 -- A run over a block of a trace: each whole record is answered by a line, until the bytes, the room or the trace end (01, section 8).
 use Rattle.std.specs.Prelude.{Bool, cond, List, ℕ, zero, suc, ◌+◌, ◌-◌, ltb, leb, length}
 use Rattle.cells.specs.Numbers.{part}
-use Rattle.records.specs.Records.{recordEnd}
+use Rattle.records.specs.Records.{record_end}
 use Rattle.records.specs.declared.Cut.{Cut}
 use Rattle.stack.specs.Stores.{Stores}
 use Rattle.answers.specs.Answers.{turn_of}
 use Rattle.replies.specs.Replies.{Answered, saying}
 use Rattle.replies.specs.declared.Said.{Said}
-use Rattle.block_ends.specs.BlockEnds.{fed, badFed, badOut, cutFed, cutOut, beginOf}
+use Rattle.block_ends.specs.BlockEnds.{fed, bad_fed, bad_out, cut_fed, cut_out, begin_of}
 use Rattle.block_ends.specs.declared.Begin.{Begin}
 use Rattle.block_ends.specs.declared.Fed.{Fed}
 use Rattle.block_ends.specs.declared.Halt.{Halt}
@@ -22,19 +22,19 @@ abbrev pub ran : Fed → List ℕ → Stores → Ran
 ran f out after = record { fed = f; out = out; after = after }
 
 -- The last line, and the stores as they are.
-abbrev pub badRun : (place at wrote : ℕ) → (out : List ℕ) → Stores → Ran
-badRun place at wrote out s = ran (badFed place at wrote) (badOut place at wrote out) s
+abbrev pub bad_run : (place at wrote : ℕ) → (out : List ℕ) → Stores → Ran
+bad_run place at wrote out s = ran (bad_fed place at wrote) (bad_out place at wrote out) s
 
 -- What is cut short, and the stores as they are.
-abbrev pub cutRun : (last : Bool) → (place at wrote : ℕ) → (out : List ℕ) → Stores → Ran
-cutRun last place at wrote out s = ran (cutFed last place at wrote) (cutOut last place at wrote out) s
+abbrev pub cut_run : (last : Bool) → (place at wrote : ℕ) → (out : List ℕ) → Stores → Ran
+cut_run last place at wrote out s = ran (cut_fed last place at wrote) (cut_out last place at wrote out) s
 
-unfoldable pub onCut : Cut → Ran → (ℕ → Ran) → Ran
-onCut Cut.Short short go = short
-onCut (Cut.Whole end) short go = go end
+unfoldable pub on_cut : Cut → Ran → (ℕ → Ran) → Ran
+on_cut Cut.Short short go = short
+on_cut (Cut.Whole end) short go = go end
 
-unfoldable pub onSaid : Answered → (bad : List ℕ → Stores → Ran) → (ℕ → List ℕ → Stores → Ran) → Ran
-onSaid a bad go = by a.said
+unfoldable pub on_said : Answered → (bad : List ℕ → Stores → Ran) → (ℕ → List ℕ → Stores → Ran) → Ran
+on_said a bad go = by a.said
   where
     by : Said → Ran
     by (Said.Line next) = go next a.out a.after
@@ -43,20 +43,20 @@ onSaid a bad go = by a.said
 -- The block stands at `place` of the trace; `last`: no bytes come after it.
 module _ (sheet program block : List ℕ) (last : Bool) (place : ℕ) where
   -- At most n records from a place of the block on.
-  unfoldable pub answersFrom : (n at wrote : ℕ) → (out : List ℕ) → Stores → Ran
-  answersFrom zero at wrote out s = ran (fed at wrote Halt.Hungry) out s
-  answersFrom (suc n) at wrote out s =
+  unfoldable pub answers_from : (n at wrote : ℕ) → (out : List ℕ) → Stores → Ran
+  answers_from zero at wrote out s = ran (fed at wrote Halt.Hungry) out s
+  answers_from (suc n) at wrote out s =
       cond (leb (length block) at) (ran (fed at wrote Halt.Hungry) out s)
       (cond (ltb (length out - wrote) 8192) (ran (fed at wrote Halt.Full) out s)
-      (onCut (recordEnd block at)
-      (cutRun last place at wrote out s)
-      (λ end. onSaid (saying (turn_of sheet program s (part block (at + 2) end)) out wrote)
-      (λ out' s'. badRun place at wrote out' s')
-      (λ next out' s'. answersFrom n end next out' s'))))
+      (on_cut (record_end block at)
+      (cut_run last place at wrote out s)
+      (λ end. on_said (saying (turn_of sheet program s (part block (at + 2) end)) out wrote)
+      (λ out' s'. bad_run place at wrote out' s')
+      (λ next out' s'. answers_from n end next out' s'))))
 
-  unfoldable pub feedBy : Begin → (out : List ℕ) → Stores → Ran
-  feedBy (Begin.At first) out s = answersFrom (length block) first 0 out s
-  feedBy (Begin.Not faulty) out s = cutRun faulty 0 0 0 out s
+  unfoldable pub feed_by : Begin → (out : List ℕ) → Stores → Ran
+  feed_by (Begin.At first) out s = answers_from (length block) first 0 out s
+  feed_by (Begin.Not faulty) out s = cut_run faulty 0 0 0 out s
 
-  unfoldable pub feedOf : (out : List ℕ) → Stores → Ran
-  feedOf out s = feedBy (beginOf block last place) out s
+  unfoldable pub feed_of : (out : List ℕ) → Stores → Ran
+  feed_of out s = feed_by (begin_of block last place) out s

@@ -3,7 +3,7 @@
 
 ghost use Rattle.std.specs.Prelude.{◌≡◌, ◌+◌, ◌≤◌, length};
 ghost use Rattle.stack.specs.Stores.{stores};
-ghost use Rattle.trace.specs.Run.{ran, answersFrom, feedOf};
+ghost use Rattle.trace.specs.Run.{ran, answers_from, feed_of};
 
 use answers::answer;
 use block_ends::{Begin, Fed, Halt, bad_trace, cut_short, first_record};
@@ -26,7 +26,7 @@ fn answer_records(
     out: &mut [u8],
 ) -> Fed
     requires { (length block.now ≤ 1048576) × (first ≤ length block.now) × (place ≤ 9223372036854775808) × (length out.old ≤ 1048576) }
-    ensures nodes_after { ran result out.new (stores rows.new names.new ids.new nodes.new) ≡ answersFrom sheet.now program.now block.now last place (length block.now) first 0 out.old (stores rows.old names.old ids.old nodes.old) }
+    ensures nodes_after { ran result out.new (stores rows.new names.new ids.new nodes.new) ≡ answers_from sheet.now program.now block.now last place (length block.now) first 0 out.old (stores rows.old names.old ids.old nodes.old) }
     ensures used_in_bounds { (result.used ≤ length block.now) × (result.wrote ≤ length out.new) }
 {
     let mut at = first;
@@ -72,7 +72,7 @@ pub fn feed(
     out: &mut [u8],
 ) -> Fed
     requires { (length block.now ≤ 1048576) × (place ≤ 9223372036854775808) × (8192 ≤ length out.old) × (length out.old ≤ 1048576) }
-    ensures nodes_after { ran result out.new (stores rows.new names.new ids.new nodes.new) ≡ feedOf sheet.now program.now block.now last place out.old (stores rows.old names.old ids.old nodes.old) }
+    ensures nodes_after { ran result out.new (stores rows.new names.new ids.new nodes.new) ≡ feed_of sheet.now program.now block.now last place out.old (stores rows.old names.old ids.old nodes.old) }
     ensures used_in_bounds { (result.used ≤ length block.now) × (result.wrote ≤ length out.new) }
 {
     let begin = first_record(block, last, place);

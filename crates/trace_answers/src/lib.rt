@@ -2,10 +2,10 @@
 //! in specs/, the proofs in proofs/, and the one function's promise is the statements.
 #![tactic(auto)]
 
-ghost use Rattle.trace_answers.specs.Answering.{Lines-are-answers, Traces-are-answered};
+ghost use Rattle.trace_answers.specs.Answering.{LinesAreAnswers, TracesAreAnswered};
 
 /// Does nothing; it promises the theorems.
 pub fn answers_of_a_trace()
-    ensures lines { Lines-are-answers }
-    ensures answered { Traces-are-answered }
+    ensures lines { LinesAreAnswers }
+    ensures answered { TracesAreAnswered }
 {}

@@ -3,12 +3,12 @@ use Rattle.std.proofs.Common.{◌≡◌, ℕ, zero, suc, ◌+◌, ◌-◌, ◌<�
 use Rattle.std.proofs.Math.Seq.{drop-cons}
 use Rattle.std.proofs.lemmas.Bool.{eqb-true}
 use Rattle.std.specs.Io.KnownBytes.{Consumes, IsAtEnd}
-use Rattle.cells.specs.Stretches.{cellsFrom, written, length-written, length-cells, cells_in}
+use Rattle.cells.specs.Stretches.{cells_from, written, length-written, length-cells, cells_in}
 use Rattle.trace_blocks.specs.Progress.{Refilled, ReadOn}
 use Rattle.trace_blocks.specs.declared.Progress.{Progress}
 
-pub cells_are : (xs : List ℕ) (a n : ℕ) → a + n ≤ length xs → cellsFrom xs a n ≡ take n (drop a xs)
-unfolding cellsFrom
+pub cells_are : (xs : List ℕ) (a n : ℕ) → a + n ≤ length xs → cells_from xs a n ≡ take n (drop a xs)
+unfolding cells_from
 cells_are xs a zero h = refl
 cells_are xs a (suc n) h =
     let lt : a < length xs = omega arith in
@@ -16,22 +16,22 @@ cells_are xs a (suc n) h =
     rw (drop-cons xs a 0, e) (ap (λ l. get_or xs a 0 ∷ l) (cells_are xs (a + 1) n (omega arith)))
 
 -- The bytes from a place on, written to the front, stand there.
-pub front_is : (xs : List ℕ) (a n : ℕ) → a + n ≤ length xs → take n (written xs 0 (cellsFrom xs a n)) ≡ take n (drop a xs)
+pub front_is : (xs : List ℕ) (a n : ℕ) → a + n ≤ length xs → take n (written xs 0 (cells_from xs a n)) ≡ take n (drop a xs)
 front_is xs a n h =
-    let vs = cellsFrom xs a n in
+    let vs = cells_from xs a n in
     let long : length vs ≡ n = length-cells xs a n in
     let fits : 0 + length vs ≤ length xs = omega arith in
-    let stands : cellsFrom (written xs 0 vs) 0 n ≡ vs = subst (λ (k : ℕ). cellsFrom (written xs 0 vs) 0 k ≡ vs) long (cells_in xs 0 vs fits) in
+    let stands : cells_from (written xs 0 vs) 0 n ≡ vs = subst (λ (k : ℕ). cells_from (written xs 0 vs) 0 k ≡ vs) long (cells_in xs 0 vs fits) in
     let room : 0 + n ≤ length (written xs 0 vs) = rw (length-written xs 0 vs) (omega arith) in
     sym (cells_are (written xs 0 vs) 0 n room) ∙ stands ∙ cells_are xs a n h
 
 pub read_on : (old new : Option (List ℕ)) (p : Progress) (input mid input' : List ℕ) (kept more : ℕ) → p.at ≤ p.end → p.end ≤ length input
-    → kept ≡ p.end - p.at → mid ≡ written input 0 (cellsFrom input p.at (p.end - p.at))
+    → kept ≡ p.end - p.at → mid ≡ written input 0 (cells_from input p.at (p.end - p.at))
     → take kept input' ≡ take kept mid → Consumes old new (take more (drop kept input')) → (more ≡ 0 → kept < length mid → IsAtEnd new)
     → ReadOn old new p input (record { at = 0; end = kept + more; place = p.place; last = nat_eq more 0; hungry = false; over = false }) input'
 read_on old new p input mid input' kept more inside fits is wrote front taken end =
     let n = p.end - p.at in
-    let long : length mid ≡ length input = ap length wrote ∙ length-written input 0 (cellsFrom input p.at n) in
+    let long : length mid ≡ length input = ap length wrote ∙ length-written input 0 (cells_from input p.at n) in
     let stood : take n input' ≡ take n (drop p.at input) =
     subst (λ (k : ℕ). take k input' ≡ take k mid) is front ∙ ap (take n) wrote ∙ front_is input p.at n (omega arith) in
     let size : more ≡ kept + more - n = omega arith in

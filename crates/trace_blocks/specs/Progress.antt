@@ -3,7 +3,7 @@ use Rattle.std.specs.Io.KnownBytes.{Consumes, IsAtEnd, Keeps}
 use Rattle.block_ends.specs.declared.Fed.{Fed}
 use Rattle.block_ends.specs.declared.Halt.{Halt}
 use Rattle.stack.specs.Stores.{Stores}
-use Rattle.trace.specs.Run.{Ran, feedOf}
+use Rattle.trace.specs.Run.{Ran, feed_of}
 use Rattle.trace_blocks.specs.declared.Progress.{Progress}
 
 -- The bytes still to be read lie in a buffer of n bytes.
@@ -12,7 +12,7 @@ Sound p n = (p.at ≤ p.end) × (p.end ≤ n)
 
 -- How a run over the buffer's bytes went, from the stores and the buffer of lines as they were.
 abbrev pub run_of : (sheet program : List ℕ) → Progress → (input out : List ℕ) → Stores → Ran
-run_of sheet program p input out s = feedOf sheet program (slice_range input p.at p.end) p.last p.place out s
+run_of sheet program p input out s = feed_of sheet program (slice_range input p.at p.end) p.last p.place out s
 
 -- A run that ended for want of bytes.
 abbrev pub is_hungry : Halt → Bool

@@ -4,7 +4,7 @@
 ghost use Rattle.std.specs.Prelude.{◌≡◌, ◌≢◌, ◌+◌, ◌<◌, ◌≤◌, length, take, drop, IfSome, IfOk, IfErr, OnOk, OnErr};
 ghost use Rattle.std.specs.IoError.{error_kind};
 ghost use Rattle.std.specs.Io.KnownBytes.{Appends, Consumes, IsAtEnd, Keeps};
-ghost use Rattle.records.specs.Sheets.{sheetLength, sheetEnd};
+ghost use Rattle.records.specs.Sheets.{sheet_length, sheet_end};
 ghost use Rattle.stack.specs.Stores.{stores};
 ghost use Rattle.trace_blocks.specs.Progress.{Sound, run_of, advanced, Refilled, Turned};
 
@@ -169,8 +169,8 @@ pub fn turn<R: Read, W: Write>(
 pub fn read_sheet<R: Read>(reader: &mut R, sheet: &mut [u8]) -> Result<usize>
     requires { length sheet.old ≡ 65536 }
     ensures upper_bound { IfOk result (λ n. n ≤ 65536) }
-    ensures said { IfOk result (λ n. 5 ≤ n → n ≤ sheetLength sheet.new) }
-    ensures value { IfOk result (λ n. IfSome (R.remaining reader.old) (λ input. (n ≡ sheetEnd input) × (take n sheet.new ≡ take n input))) }
+    ensures said { IfOk result (λ n. 5 ≤ n → n ≤ sheet_length sheet.new) }
+    ensures value { IfOk result (λ n. IfSome (R.remaining reader.old) (λ input. (n ≡ sheet_end input) × (take n sheet.new ≡ take n input))) }
     ensures taken { IfOk result (λ n. 5 ≤ n → Consumes (R.remaining reader.old) (R.remaining reader.new) (take n sheet.new)) }
     ensures retried { IfErr result (λ e. error_kind e ≢ ErrorKind.Interrupted) }
 {

@@ -5,24 +5,24 @@ use Rattle.std.proofs.Math.Seq.{drop-cons}
 use Rattle.std.proofs.lemmas.Bool.{le-leb, lt-leb, leb-false, leb-true, ltb-true, ltb-false, lt-ltb, le-ltb}
 use Rattle.std.proofs.lemmas.List.{append-nil, append_assoc}
 use Rattle.cells.specs.Numbers.{part}
-use Rattle.cells.specs.Stretches.{cellsFrom, written, length-written, cells_in, cells-below, cells-cat}
-use Rattle.lines.specs.Lines.{badTraceLine}
-use Rattle.records.specs.Records.{recordEnd}
+use Rattle.cells.specs.Stretches.{cells_from, written, length-written, cells_in, cells-below, cells-cat}
+use Rattle.lines.specs.Lines.{bad_trace_line}
+use Rattle.records.specs.Records.{record_end}
 use Rattle.records.specs.declared.Cut.{Cut}
 use Rattle.stack.specs.Stores.{Stores}
 use Rattle.answers.specs.Answers.{turn_of}
 use Rattle.replies.specs.Replies.{Turn, saying}
-use Rattle.block_ends.specs.BlockEnds.{fed, badFed, cutFed}
+use Rattle.block_ends.specs.BlockEnds.{fed, bad_fed, cut_fed}
 use Rattle.block_ends.specs.declared.Halt.{Halt}
-use Rattle.trace.specs.Run.{Ran, ran, badRun, cutRun, onCut, onSaid, answersFrom}
-use Rattle.trace_lines.specs.Lines.{Told, told, following, textOf, onTurn, badAt, recordsFrom, linesFrom}
-use Rattle.trace_lines.specs.Cuttings.{leftBy}
+use Rattle.trace.specs.Run.{Ran, ran, bad_run, cut_run, on_cut, on_said, answers_from}
+use Rattle.trace_lines.specs.Lines.{Told, told, following, text_of, on_turn, bad_at, records_from, lines_from}
+use Rattle.trace_lines.specs.Cuttings.{left_by}
 use Rattle.trace_lines.proofs.Records.{rec-done, rec-cut, rec-turn, whole_in, enough, long, whole-inside, part-inside, short-inside}
 
 -- ---- what stands in the buffer
 
-cells_are : (xs : List ℕ) (a n : ℕ) → a + n ≤ length xs → cellsFrom xs a n ≡ take n (drop a xs)
-unfolding cellsFrom
+cells_are : (xs : List ℕ) (a n : ℕ) → a + n ≤ length xs → cells_from xs a n ≡ take n (drop a xs)
+unfolding cells_from
 cells_are xs a zero h = refl
 cells_are xs a (suc n) h =
     let lt : a < length xs = omega arith in
@@ -39,26 +39,26 @@ text-after xs a vs h =
 -- ---- no run takes back what it wrote
 
 module _ (sheet program block : List ℕ) (last : Bool) (place : ℕ) where
-  pub grows : (n at wrote : ℕ) (out : List ℕ) (s : Stores) → wrote ≤ (answersFrom sheet program block last place n at wrote out s).fed.wrote
-  unfolding answersFrom saying onSaid onCut
+  pub grows : (n at wrote : ℕ) (out : List ℕ) (s : Stores) → wrote ≤ (answers_from sheet program block last place n at wrote out s).fed.wrote
+  unfolding answers_from saying on_said on_cut
   grows zero at wrote out s = omega arith
-  grows (suc n) at wrote out s = by (λ end next out' s'. grows n end next out' s') (leb (length block) at) (ltb (length out - wrote) 8192) (recordEnd block at)
+  grows (suc n) at wrote out s = by (λ end next out' s'. grows n end next out' s') (leb (length block) at) (ltb (length out - wrote) 8192) (record_end block at)
     where
-      cut : (l : Bool) → wrote ≤ (cutFed l place at wrote).wrote
+      cut : (l : Bool) → wrote ≤ (cut_fed l place at wrote).wrote
       cut true = omega arith
       cut false = omega arith
 
-      turn : ((end next : ℕ) (out' : List ℕ) (s' : Stores) → next ≤ (answersFrom sheet program block last place n end next out' s').fed.wrote) → (end : ℕ) (t : Turn) → wrote ≤ (onSaid (saying t out wrote) (λ out' s'. badRun place at wrote out' s') (λ next out' s'. answersFrom sheet program block last place n end next out' s')).fed.wrote
+      turn : ((end next : ℕ) (out' : List ℕ) (s' : Stores) → next ≤ (answers_from sheet program block last place n end next out' s').fed.wrote) → (end : ℕ) (t : Turn) → wrote ≤ (on_said (saying t out wrote) (λ out' s'. bad_run place at wrote out' s') (λ next out' s'. answers_from sheet program block last place n end next out' s')).fed.wrote
       turn ih end (Turn.line text after) = let g = ih end (wrote + length text) (written out wrote text) after in omega arith
       turn ih end (Turn.faulty after) = omega arith
 
-      by : ((end next : ℕ) (out' : List ℕ) (s' : Stores) → next ≤ (answersFrom sheet program block last place n end next out' s').fed.wrote) → (b c : Bool) (r : Cut) → wrote ≤ (cond b (ran (fed at wrote Halt.Hungry) out s)
+      by : ((end next : ℕ) (out' : List ℕ) (s' : Stores) → next ≤ (answers_from sheet program block last place n end next out' s').fed.wrote) → (b c : Bool) (r : Cut) → wrote ≤ (cond b (ran (fed at wrote Halt.Hungry) out s)
           (cond c (ran (fed at wrote Halt.Full) out s)
-          (onCut r
-          (cutRun last place at wrote out s)
-          (λ end. onSaid (saying (turn_of sheet program s (part block (at + 2) end)) out wrote)
-          (λ out' s'. badRun place at wrote out' s')
-          (λ next out' s'. answersFrom sheet program block last place n end next out' s'))))).fed.wrote
+          (on_cut r
+          (cut_run last place at wrote out s)
+          (λ end. on_said (saying (turn_of sheet program s (part block (at + 2) end)) out wrote)
+          (λ out' s'. bad_run place at wrote out' s')
+          (λ next out' s'. answers_from sheet program block last place n end next out' s'))))).fed.wrote
       by ih true c r = omega arith
       by ih false true r = omega arith
       by ih false false Cut.Short = cut last
@@ -67,36 +67,36 @@ module _ (sheet program block : List ℕ) (last : Bool) (place : ℕ) where
 -- ---- the run over a block, one step at a time
 
 module _ (sheet program block : List ℕ) (last : Bool) (place : ℕ) where
-  run-done : (n at wrote : ℕ) (out : List ℕ) (s : Stores) → length block ≤ at → ran (fed at wrote Halt.Hungry) out s ≡ answersFrom sheet program block last place n at wrote out s
-  unfolding answersFrom
+  run-done : (n at wrote : ℕ) (out : List ℕ) (s : Stores) → length block ≤ at → ran (fed at wrote Halt.Hungry) out s ≡ answers_from sheet program block last place n at wrote out s
+  unfolding answers_from
   run-done zero at wrote out s h = refl
   run-done (suc n) at wrote out s h = simp (le-leb _ _ h)
 
   module _ (n at wrote : ℕ) (out : List ℕ) (s : Stores) (h : at < length block) where
-    run-full : length out - wrote < 8192 → ran (fed at wrote Halt.Full) out s ≡ answersFrom sheet program block last place (suc n) at wrote out s
-    unfolding answersFrom
+    run-full : length out - wrote < 8192 → ran (fed at wrote Halt.Full) out s ≡ answers_from sheet program block last place (suc n) at wrote out s
+    unfolding answers_from
     run-full g = simp (lt-leb _ _ h, lt-ltb _ _ g)
 
-    run-cut : 8192 ≤ length out - wrote → recordEnd block at ≡ Cut.Short → cutRun last place at wrote out s ≡ answersFrom sheet program block last place (suc n) at wrote out s
-    unfolding answersFrom onCut
+    run-cut : 8192 ≤ length out - wrote → record_end block at ≡ Cut.Short → cut_run last place at wrote out s ≡ answers_from sheet program block last place (suc n) at wrote out s
+    unfolding answers_from on_cut
     run-cut g e = simp (lt-leb _ _ h, le-ltb _ _ g, e)
 
-    module _ (g : 8192 ≤ length out - wrote) (end : ℕ) (e : recordEnd block at ≡ Cut.Whole end) (after : Stores) where
-      run-faulty : turn_of sheet program s (part block (at + 2) end) ≡ Turn.faulty after → badRun place at wrote out after ≡ answersFrom sheet program block last place (suc n) at wrote out s
-      unfolding answersFrom onCut onSaid saying
+    module _ (g : 8192 ≤ length out - wrote) (end : ℕ) (e : record_end block at ≡ Cut.Whole end) (after : Stores) where
+      run-faulty : turn_of sheet program s (part block (at + 2) end) ≡ Turn.faulty after → bad_run place at wrote out after ≡ answers_from sheet program block last place (suc n) at wrote out s
+      unfolding answers_from on_cut on_said saying
       run-faulty t = simp (lt-leb _ _ h, le-ltb _ _ g, e, t)
 
       run_line : (text : List ℕ) → turn_of sheet program s (part block (at + 2) end) ≡ Turn.line text after
-          → answersFrom sheet program block last place n end (wrote + length text) (written out wrote text) after ≡ answersFrom sheet program block last place (suc n) at wrote out s
-      unfolding answersFrom onCut onSaid saying
+          → answers_from sheet program block last place n end (wrote + length text) (written out wrote text) after ≡ answers_from sheet program block last place (suc n) at wrote out s
+      unfolding answers_from on_cut on_said saying
       run_line text t = simp (lt-leb _ _ h, le-ltb _ _ g, e, t)
 
 -- What a run over records says, from its place in a trace on: its text comes behind what stood in the buffer.
 pub record Says (sheet program trace : List ℕ) (last : Bool) (place at wrote : ℕ) (out : List ℕ) (s : Stores) (r : Ran) : Type 0 where
   pub lines : List (List ℕ)
-  pub text : take r.fed.wrote r.out ≡ take wrote out ++ textOf lines
-  pub whole : (m : ℕ) → length trace ≤ at + m → following lines (leftBy sheet program trace r.fed.halt (place + r.fed.used) r.after) ≡ recordsFrom sheet program trace m at s
-  pub all : last ≡ true → r.fed.halt ≡ Halt.Hungry → leftBy sheet program trace r.fed.halt (place + r.fed.used) r.after ≡ told [] r.after
+  pub text : take r.fed.wrote r.out ≡ take wrote out ++ text_of lines
+  pub whole : (m : ℕ) → length trace ≤ at + m → following lines (left_by sheet program trace r.fed.halt (place + r.fed.used) r.after) ≡ records_from sheet program trace m at s
+  pub all : last ≡ true → r.fed.halt ≡ Halt.Hungry → left_by sheet program trace r.fed.halt (place + r.fed.used) r.after ≡ told [] r.after
 
 pub full_no : {A : Type 0} → Halt.Full ≡ Halt.Hungry → A
 full_no e = absurd (let z : ◌≡◌ {A = ℕ} 0 1 = cc in let q : ⊥ = omega arith in q)
@@ -108,14 +108,14 @@ pub false_no : {A : Type 0} {b : Bool} → b ≡ false → b ≡ true → A
 false_no e f = absurd (let z : ◌≡◌ {A = Bool} true false = cc in cc)
 
 module _ (sheet program trace : List ℕ) where
-  pub resumed : (n at : ℕ) (s : Stores) → 0 < at → length trace ≤ at + n → linesFrom sheet program trace at s ≡ recordsFrom sheet program trace n at s
-  unfolding linesFrom
+  pub resumed : (n at : ℕ) (s : Stores) → 0 < at → length trace ≤ at + n → lines_from sheet program trace at s ≡ records_from sheet program trace n at s
+  unfolding lines_from
   resumed n at s h g = simp (lt-ltb _ _ h) (enough sheet program trace (length trace) n at s (omega arith) g)
 
   module _ (last : Bool) (place at wrote : ℕ) (out : List ℕ) (s : Stores) where
     -- nothing said
     says-hungry : 0 < place + at → (last ≡ true → length trace ≤ place + at) → Says sheet program trace last place (place + at) wrote out s (ran (fed at wrote Halt.Hungry) out s)
-    unfolding textOf
+    unfolding text_of
     says-hungry h g = record {
       lines = [];
       text = sym (append-nil (take wrote out));
@@ -124,16 +124,16 @@ module _ (sheet program trace : List ℕ) where
     }
 
     says-full : 0 < place + at → Says sheet program trace last place (place + at) wrote out s (ran (fed at wrote Halt.Full) out s)
-    unfolding textOf
+    unfolding text_of
     says-full h = record { lines = []; text = sym (append-nil (take wrote out)); whole = λ m g. resumed m (place + at) s h g; all = λ l e. full_no e }
 
     -- the last line
-    says-bad : (after : Stores) → ((m : ℕ) → length trace ≤ place + at + m → badAt sheet program trace (place + at) after ≡ recordsFrom sheet program trace m (place + at) s)
-        → (badFed place at wrote).wrote ≤ length out → Says sheet program trace last place (place + at) wrote out s (badRun place at wrote out after)
-    unfolding textOf
+    says-bad : (after : Stores) → ((m : ℕ) → length trace ≤ place + at + m → bad_at sheet program trace (place + at) after ≡ records_from sheet program trace m (place + at) s)
+        → (bad_fed place at wrote).wrote ≤ length out → Says sheet program trace last place (place + at) wrote out s (bad_run place at wrote out after)
+    unfolding text_of
     says-bad after e f = record {
-      lines = badTraceLine (place + at) ∷ [];
-      text = text-after out wrote (badTraceLine (place + at)) f ∙ ap (λ l. take wrote out ++ l) (sym (append-nil (badTraceLine (place + at))));
+      lines = bad_trace_line (place + at) ∷ [];
+      text = text-after out wrote (bad_trace_line (place + at)) f ∙ ap (λ l. take wrote out ++ l) (sym (append-nil (bad_trace_line (place + at))));
       whole = e;
       all = λ l h. over_no h;
     }
@@ -143,10 +143,10 @@ module _ (sheet program before block more : List ℕ) (last : Bool) (ends : last
   trace_of = before ++ (block ++ more)
 
   abbrev run_from : (n at wrote : ℕ) → (out : List ℕ) → Stores → Ran
-  run_from n at wrote out s = answersFrom sheet program block last (length before) n at wrote out s
+  run_from n at wrote out s = answers_from sheet program block last (length before) n at wrote out s
 
-  abbrev says-from : (at wrote : ℕ) → (out : List ℕ) → Stores → Ran → Type 0
-  says-from at wrote out s r = r.fed.wrote ≤ length out → Says sheet program trace_of last (length before) (length before + at) wrote out s r
+  abbrev SaysFrom : (at wrote : ℕ) → (out : List ℕ) → Stores → Ran → Type 0
+  SaysFrom at wrote out s r = r.fed.wrote ≤ length out → Says sheet program trace_of last (length before) (length before + at) wrote out s r
 
   turn_inside : (at end : ℕ) (s : Stores) → at + 2 ≤ end → end ≤ length block
       → turn_of sheet program s (part trace_of (length before + at + 2) (length before + end)) ≡ turn_of sheet program s (part block (at + 2) end)
@@ -159,44 +159,44 @@ module _ (sheet program before block more : List ℕ) (last : Bool) (ends : last
     inside : length before + at < length trace_of
     inside = let l = long before block more in omega arith
 
-    step-cut : last ≡ true → recordEnd block at ≡ Cut.Short → (m : ℕ) → length trace_of ≤ length before + at + m
-        → badAt sheet program trace_of (length before + at) s ≡ recordsFrom sheet program trace_of m (length before + at) s
+    step-cut : last ≡ true → record_end block at ≡ Cut.Short → (m : ℕ) → length trace_of ≤ length before + at + m
+        → bad_at sheet program trace_of (length before + at) s ≡ records_from sheet program trace_of m (length before + at) s
     step-cut l e zero g = let i = inside in absurd (let q : ⊥ = omega arith in q)
     step-cut l e (suc m) g = sym (rec-cut sheet program trace_of m (length before + at) s inside short)
       where
-        short : recordEnd trace_of (length before + at) ≡ Cut.Short
+        short : record_end trace_of (length before + at) ≡ Cut.Short
         short = rw (ends l) (short-inside before block at e)
 
-    step-turn : (end : ℕ) (t : Turn) → recordEnd block at ≡ Cut.Whole end → turn_of sheet program s (part block (at + 2) end) ≡ t → (m : ℕ) → length trace_of ≤ length before + at + suc m
-        → onTurn t (badAt sheet program trace_of (length before + at)) (λ after. recordsFrom sheet program trace_of m (length before + end) after) ≡ recordsFrom sheet program trace_of (suc m) (length before + at) s
+    step-turn : (end : ℕ) (t : Turn) → record_end block at ≡ Cut.Whole end → turn_of sheet program s (part block (at + 2) end) ≡ t → (m : ℕ) → length trace_of ≤ length before + at + suc m
+        → on_turn t (bad_at sheet program trace_of (length before + at)) (λ after. records_from sheet program trace_of m (length before + end) after) ≡ records_from sheet program trace_of (suc m) (length before + at) s
     step-turn end t e q m g =
         let w = whole_in block at end e in
         sym (
         rec-turn sheet program trace_of m (length before + at) s (length before + end) inside (whole-inside before block more at end e)
-        ∙ ap (λ (x : Turn). onTurn x (badAt sheet program trace_of (length before + at)) (λ after. recordsFrom sheet program trace_of m (length before + end) after)) (turn_inside at end s (omega arith) (omega arith) ∙ q)
+        ∙ ap (λ (x : Turn). on_turn x (bad_at sheet program trace_of (length before + at)) (λ after. records_from sheet program trace_of m (length before + end) after)) (turn_inside at end s (omega arith) (omega arith) ∙ q)
         )
 
-    step-faulty : (end : ℕ) (after : Stores) → recordEnd block at ≡ Cut.Whole end → turn_of sheet program s (part block (at + 2) end) ≡ Turn.faulty after → (m : ℕ) → length trace_of ≤ length before + at + m
-        → badAt sheet program trace_of (length before + at) after ≡ recordsFrom sheet program trace_of m (length before + at) s
-    unfolding onTurn
+    step-faulty : (end : ℕ) (after : Stores) → record_end block at ≡ Cut.Whole end → turn_of sheet program s (part block (at + 2) end) ≡ Turn.faulty after → (m : ℕ) → length trace_of ≤ length before + at + m
+        → bad_at sheet program trace_of (length before + at) after ≡ records_from sheet program trace_of m (length before + at) s
+    unfolding on_turn
     step-faulty end after e q zero g = let i = inside in absurd (let q : ⊥ = omega arith in q)
     step-faulty end after e q (suc m) g = step-turn end (Turn.faulty after) e q m g
 
     -- a line, and what is said from the next record on
-    step_line : (end wrote : ℕ) (out text : List ℕ) (after : Stores) (r : Ran) → recordEnd block at ≡ Cut.Whole end → turn_of sheet program s (part block (at + 2) end) ≡ Turn.line text after
+    step_line : (end wrote : ℕ) (out text : List ℕ) (after : Stores) (r : Ran) → record_end block at ≡ Cut.Whole end → turn_of sheet program s (part block (at + 2) end) ≡ Turn.line text after
         → wrote + length text ≤ length out
         → Says sheet program trace_of last (length before) (length before + end) (wrote + length text) (written out wrote text) after r
         → Says sheet program trace_of last (length before) (length before + at) wrote out s r
-    unfolding textOf onTurn
+    unfolding text_of on_turn
     step_line end wrote out text after r e q f says = record {
       lines = text ∷ says.lines;
-      text = says.text ∙ ap (λ l. l ++ textOf says.lines) (text-after out wrote text f) ∙ append_assoc (take wrote out) text (textOf says.lines);
+      text = says.text ∙ ap (λ l. l ++ text_of says.lines) (text-after out wrote text f) ∙ append_assoc (take wrote out) text (text_of says.lines);
       whole = whole;
       all = says.all;
     }
       where
         whole : (m : ℕ) → length trace_of ≤ length before + at + m
-            → following (text ∷ says.lines) (leftBy sheet program trace_of r.fed.halt (length before + r.fed.used) r.after) ≡ recordsFrom sheet program trace_of m (length before + at) s
+            → following (text ∷ says.lines) (left_by sheet program trace_of r.fed.halt (length before + r.fed.used) r.after) ≡ records_from sheet program trace_of m (length before + at) s
         whole zero g = let i = inside in absurd (let q : ⊥ = omega arith in q)
         whole (suc m) g =
             let w = whole_in block at end e in
@@ -208,36 +208,36 @@ module _ (sheet program before block more : List ℕ) (last : Bool) (ends : last
       let z : length more ≡ 0 = ap length (ends l) in
       omega arith
 
-  pub run-says : (n at wrote : ℕ) (out : List ℕ) (s : Stores) → at ≤ length block → length block ≤ at + n → 0 < length before + at → says-from at wrote out s (run_from n at wrote out s)
-  run-says zero at wrote out s h g p f = subst (says-from at wrote out s) (run-done sheet program block last (length before) zero at wrote out s (omega arith)) (λ f. says-hungry sheet program trace_of last (length before) at wrote out s p (to_end at (omega arith))) f
+  pub run-says : (n at wrote : ℕ) (out : List ℕ) (s : Stores) → at ≤ length block → length block ≤ at + n → 0 < length before + at → SaysFrom at wrote out s (run_from n at wrote out s)
+  run-says zero at wrote out s h g p f = subst (SaysFrom at wrote out s) (run-done sheet program block last (length before) zero at wrote out s (omega arith)) (λ f. says-hungry sheet program trace_of last (length before) at wrote out s p (to_end at (omega arith))) f
   run-says (suc n) at wrote out s h g p f = by (λ end wrote out s h g p f. run-says n end wrote out s h g p f) (leb (length block) at) refl f
     where
-      cut : (l : Bool) → last ≡ l → at < length block → recordEnd block at ≡ Cut.Short → says-from at wrote out s (cutRun l (length before) at wrote out s)
+      cut : (l : Bool) → last ≡ l → at < length block → record_end block at ≡ Cut.Short → SaysFrom at wrote out s (cut_run l (length before) at wrote out s)
       cut true e i c f = says-bad sheet program trace_of last (length before) at wrote out s s (step-cut at s i e c) f
       cut false e i c f = says-hungry sheet program trace_of last (length before) at wrote out s p (λ l. false_no e l)
 
-      turn : ((end wrote : ℕ) (out : List ℕ) (s : Stores) → end ≤ length block → length block ≤ end + n → 0 < length before + end → says-from end wrote out s (run_from n end wrote out s)) → at < length block → 8192 ≤ length out - wrote → (end : ℕ) → recordEnd block at ≡ Cut.Whole end → (t : Turn) → turn_of sheet program s (part block (at + 2) end) ≡ t → says-from at wrote out s (run_from (suc n) at wrote out s)
+      turn : ((end wrote : ℕ) (out : List ℕ) (s : Stores) → end ≤ length block → length block ≤ end + n → 0 < length before + end → SaysFrom end wrote out s (run_from n end wrote out s)) → at < length block → 8192 ≤ length out - wrote → (end : ℕ) → record_end block at ≡ Cut.Whole end → (t : Turn) → turn_of sheet program s (part block (at + 2) end) ≡ t → SaysFrom at wrote out s (run_from (suc n) at wrote out s)
       turn ih i r end c (Turn.faulty after) q f =
-          subst (says-from at wrote out s) (run-faulty sheet program block last (length before) n at wrote out s i r end c after q) (λ f. says-bad sheet program trace_of last (length before) at wrote out s after (step-faulty at s i end after c q) f) f
+          subst (SaysFrom at wrote out s) (run-faulty sheet program block last (length before) n at wrote out s i r end c after q) (λ f. says-bad sheet program trace_of last (length before) at wrote out s after (step-faulty at s i end after c q) f) f
       turn ih i r end c (Turn.line text after) q f =
           let w = whole_in block at end c in
-          subst (says-from at wrote out s) (run_line sheet program block last (length before) n at wrote out s i r end c after text q)
+          subst (SaysFrom at wrote out s) (run_line sheet program block last (length before) n at wrote out s i r end c after text q)
           (λ f.
           let k = length-written out wrote text in
           let b = grows sheet program block last (length before) n end (wrote + length text) (written out wrote text) after in
           step_line at s i end wrote out text after (run_from n end (wrote + length text) (written out wrote text) after) c q (omega arith)
           (ih end (wrote + length text) (written out wrote text) after (omega arith) (omega arith) (omega arith) (omega arith))) f
 
-      room : ((end wrote : ℕ) (out : List ℕ) (s : Stores) → end ≤ length block → length block ≤ end + n → 0 < length before + end → says-from end wrote out s (run_from n end wrote out s)) → at < length block → 8192 ≤ length out - wrote → (c : Cut) → recordEnd block at ≡ c → says-from at wrote out s (run_from (suc n) at wrote out s)
-      room ih i r Cut.Short c f = subst (says-from at wrote out s) (run-cut sheet program block last (length before) n at wrote out s i r c) (cut last refl i c) f
+      room : ((end wrote : ℕ) (out : List ℕ) (s : Stores) → end ≤ length block → length block ≤ end + n → 0 < length before + end → SaysFrom end wrote out s (run_from n end wrote out s)) → at < length block → 8192 ≤ length out - wrote → (c : Cut) → record_end block at ≡ c → SaysFrom at wrote out s (run_from (suc n) at wrote out s)
+      room ih i r Cut.Short c f = subst (SaysFrom at wrote out s) (run-cut sheet program block last (length before) n at wrote out s i r c) (cut last refl i c) f
       room ih i r (Cut.Whole end) c f = turn ih i r end c (turn_of sheet program s (part block (at + 2) end)) refl f
 
-      some : ((end wrote : ℕ) (out : List ℕ) (s : Stores) → end ≤ length block → length block ≤ end + n → 0 < length before + end → says-from end wrote out s (run_from n end wrote out s)) → at < length block → (b : Bool) → ltb (length out - wrote) 8192 ≡ b → says-from at wrote out s (run_from (suc n) at wrote out s)
-      some ih i true e f = subst (says-from at wrote out s) (run-full sheet program block last (length before) n at wrote out s i (ltb-true (length out - wrote) 8192 e)) (λ f. says-full sheet program trace_of last (length before) at wrote out s p) f
-      some ih i false e f = room ih i (ltb-false (length out - wrote) 8192 e) (recordEnd block at) refl f
+      some : ((end wrote : ℕ) (out : List ℕ) (s : Stores) → end ≤ length block → length block ≤ end + n → 0 < length before + end → SaysFrom end wrote out s (run_from n end wrote out s)) → at < length block → (b : Bool) → ltb (length out - wrote) 8192 ≡ b → SaysFrom at wrote out s (run_from (suc n) at wrote out s)
+      some ih i true e f = subst (SaysFrom at wrote out s) (run-full sheet program block last (length before) n at wrote out s i (ltb-true (length out - wrote) 8192 e)) (λ f. says-full sheet program trace_of last (length before) at wrote out s p) f
+      some ih i false e f = room ih i (ltb-false (length out - wrote) 8192 e) (record_end block at) refl f
 
-      by : ((end wrote : ℕ) (out : List ℕ) (s : Stores) → end ≤ length block → length block ≤ end + n → 0 < length before + end → says-from end wrote out s (run_from n end wrote out s)) → (b : Bool) → leb (length block) at ≡ b → says-from at wrote out s (run_from (suc n) at wrote out s)
+      by : ((end wrote : ℕ) (out : List ℕ) (s : Stores) → end ≤ length block → length block ≤ end + n → 0 < length before + end → SaysFrom end wrote out s (run_from n end wrote out s)) → (b : Bool) → leb (length block) at ≡ b → SaysFrom at wrote out s (run_from (suc n) at wrote out s)
       by ih true e f =
           let l = leb-true (length block) at e in
-          subst (says-from at wrote out s) (run-done sheet program block last (length before) (suc n) at wrote out s l) (λ f. says-hungry sheet program trace_of last (length before) at wrote out s p (to_end at l)) f
+          subst (SaysFrom at wrote out s) (run-done sheet program block last (length before) (suc n) at wrote out s l) (λ f. says-hungry sheet program trace_of last (length before) at wrote out s p (to_end at l)) f
       by ih false e f = some ih (leb-false (length block) at e) (ltb (length out - wrote) 8192) refl f

@@ -4,15 +4,15 @@ use Rattle.std.proofs.Math.Dec.{ltb, leb, eqb}
 use Rattle.std.proofs.lemmas.Bool.{ltb-true, leb-true, eqb-true, eqb-false}
 use Rattle.cells.specs.Numbers.{part, be16}
 use Rattle.cells.specs.Stretches.{written, length-written}
-use Rattle.records.specs.Records.{recordEnd}
+use Rattle.records.specs.Records.{record_end}
 use Rattle.records.specs.declared.Cut.{Cut}
 use Rattle.stack.specs.Stores.{Stores}
 use Rattle.answers.specs.Answers.{turn_of}
 use Rattle.replies.specs.Replies.{Turn, saying}
-use Rattle.block_ends.specs.BlockEnds.{fed, cutFed, beginOf}
+use Rattle.block_ends.specs.BlockEnds.{fed, cut_fed, begin_of}
 use Rattle.block_ends.specs.declared.Begin.{Begin}
 use Rattle.block_ends.specs.declared.Halt.{Halt}
-use Rattle.trace.specs.Run.{ran, badRun, cutRun, onCut, onSaid, answersFrom, feedBy, feedOf}
+use Rattle.trace.specs.Run.{ran, bad_run, cut_run, on_cut, on_said, answers_from, feed_by, feed_of}
 use Rattle.trace_lines.specs.Cuttings.{Stops, Stopping}
 use Rattle.trace_lines.proofs.Records.{whole_in, short_is}
 use Rattle.trace_lines.proofs.Splitting.{full_no, over_no}
@@ -27,38 +27,38 @@ module _ (block : List ℕ) (room : ℕ) where
   stops_over : (at wrote : ℕ) → at ≤ length block → Stops block room (fed at wrote Halt.Over)
   stops_over at wrote h = record { inside = h; hungry = λ e. over_no e; full = λ e. no_full e }
 
-  stops-hungry : (at wrote : ℕ) → at ≤ length block → recordEnd block at ≡ Cut.Short → Stops block room (fed at wrote Halt.Hungry)
+  stops-hungry : (at wrote : ℕ) → at ≤ length block → record_end block at ≡ Cut.Short → Stops block room (fed at wrote Halt.Hungry)
   stops-hungry at wrote h c = record { inside = h; hungry = λ e. c; full = λ e. hungry_no e }
 
   stops_end : (at wrote : ℕ) → at ≤ length block → length block ≤ at → Stops block room (fed at wrote Halt.Hungry)
   stops_end at wrote h g = stops-hungry at wrote h (short_is block at (be16 block at) refl (omega arith))
 
-  stops_cut : (last : Bool) (place at wrote : ℕ) → at ≤ length block → recordEnd block at ≡ Cut.Short → Stops block room (cutFed last place at wrote)
+  stops_cut : (last : Bool) (place at wrote : ℕ) → at ≤ length block → record_end block at ≡ Cut.Short → Stops block room (cut_fed last place at wrote)
   stops_cut true place at wrote h c = stops_over at _ h
   stops_cut false place at wrote h c = stops-hungry at wrote h c
 
 module _ (sheet program block : List ℕ) (last : Bool) (place : ℕ) where
-  records_stop : (n at wrote : ℕ) (out : List ℕ) (s : Stores) → at ≤ length block → length block ≤ at + n → Stops block (length out) (answersFrom sheet program block last place n at wrote out s).fed
-  unfolding answersFrom saying onSaid onCut
+  records_stop : (n at wrote : ℕ) (out : List ℕ) (s : Stores) → at ≤ length block → length block ≤ at + n → Stops block (length out) (answers_from sheet program block last place n at wrote out s).fed
+  unfolding answers_from saying on_said on_cut
   records_stop zero at wrote out s h g = stops_end block (length out) at wrote h (omega arith)
-  records_stop (suc n) at wrote out s h g = by (λ end next out' s' h g. records_stop n end next out' s' h g) (leb (length block) at) refl (ltb (length out - wrote) 8192) refl (recordEnd block at) refl
+  records_stop (suc n) at wrote out s h g = by (λ end next out' s' h g. records_stop n end next out' s' h g) (leb (length block) at) refl (ltb (length out - wrote) 8192) refl (record_end block at) refl
     where
-      turn : ((end next : ℕ) (out' : List ℕ) (s' : Stores) → end ≤ length block → length block ≤ end + n → Stops block (length out') (answersFrom sheet program block last place n end next out' s').fed)
+      turn : ((end next : ℕ) (out' : List ℕ) (s' : Stores) → end ≤ length block → length block ≤ end + n → Stops block (length out') (answers_from sheet program block last place n end next out' s').fed)
           → (end : ℕ) → at + 2 ≤ end → end ≤ length block → (t : Turn)
-          → Stops block (length out) (onSaid (saying t out wrote) (λ out' s'. badRun place at wrote out' s') (λ next out' s'. answersFrom sheet program block last place n end next out' s')).fed
+          → Stops block (length out) (on_said (saying t out wrote) (λ out' s'. bad_run place at wrote out' s') (λ next out' s'. answers_from sheet program block last place n end next out' s')).fed
       turn ih end p q (Turn.line text after) =
-          let f = (answersFrom sheet program block last place n end (wrote + length text) (written out wrote text) after).fed in
+          let f = (answers_from sheet program block last place n end (wrote + length text) (written out wrote text) after).fed in
           subst (λ (k : ℕ). Stops block k f) (length-written out wrote text) (ih end (wrote + length text) (written out wrote text) after q (omega arith))
       turn ih end p q (Turn.faulty after) = stops_over block (length out) at _ h
 
-      by : ((end next : ℕ) (out' : List ℕ) (s' : Stores) → end ≤ length block → length block ≤ end + n → Stops block (length out') (answersFrom sheet program block last place n end next out' s').fed)
-          → (b : Bool) → leb (length block) at ≡ b → (c : Bool) → ltb (length out - wrote) 8192 ≡ c → (r : Cut) → recordEnd block at ≡ r → Stops block (length out) (cond b (ran (fed at wrote Halt.Hungry) out s)
+      by : ((end next : ℕ) (out' : List ℕ) (s' : Stores) → end ≤ length block → length block ≤ end + n → Stops block (length out') (answers_from sheet program block last place n end next out' s').fed)
+          → (b : Bool) → leb (length block) at ≡ b → (c : Bool) → ltb (length out - wrote) 8192 ≡ c → (r : Cut) → record_end block at ≡ r → Stops block (length out) (cond b (ran (fed at wrote Halt.Hungry) out s)
           (cond c (ran (fed at wrote Halt.Full) out s)
-          (onCut r
-          (cutRun last place at wrote out s)
-          (λ end. onSaid (saying (turn_of sheet program s (part block (at + 2) end)) out wrote)
-          (λ out' s'. badRun place at wrote out' s')
-          (λ next out' s'. answersFrom sheet program block last place n end next out' s'))))).fed
+          (on_cut r
+          (cut_run last place at wrote out s)
+          (λ end. on_said (saying (turn_of sheet program s (part block (at + 2) end)) out wrote)
+          (λ out' s'. bad_run place at wrote out' s')
+          (λ next out' s'. answers_from sheet program block last place n end next out' s'))))).fed
       by ih true d c k r e = stops_end block (length out) at wrote h (leb-true (length block) at d)
       by ih false d true k r e = let l = ltb-true (length out - wrote) 8192 k in record { inside = h; hungry = λ e. full_no e; full = λ e. omega arith }
       by ih false d false k Cut.Short e = stops_cut block (length out) last place at wrote h e
@@ -66,11 +66,11 @@ module _ (sheet program block : List ℕ) (last : Bool) (place : ℕ) where
 
 -- with the version
 pub stopping : Stopping
-unfolding feedOf beginOf feedBy
+unfolding feed_of begin_of feed_by
 stopping sheet program block last place out s = by (ltb 0 place) (eqb (length block) 0) refl (eqb (get_or block 0 0) 1)
   where
     by : (a b : Bool) → eqb (length block) 0 ≡ b → (c : Bool)
-        → Stops block (length out) (feedBy sheet program block last place (cond a (Begin.At 0) (cond b (Begin.Not last) (cond (not c) (Begin.Not true) (Begin.At 1)))) out s).fed
+        → Stops block (length out) (feed_by sheet program block last place (cond a (Begin.At 0) (cond b (Begin.Not last) (cond (not c) (Begin.Not true) (Begin.At 1)))) out s).fed
     by true b e c = records_stop sheet program block last place (length block) 0 0 out s (omega arith) (omega arith)
     by false true e c =
         let z = eqb-true (length block) 0 e in

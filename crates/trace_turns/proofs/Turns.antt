@@ -16,11 +16,11 @@ use Rattle.trace_lines.specs.Cuttings.{Stands, Feeds, Cutting, said, onwards}
 use Rattle.trace_lines.proofs.Records.{byte_in}
 use Rattle.trace_lines.proofs.Splitting.{false_no}
 use Rattle.trace_lines.proofs.Cutting.{whole}
-use Rattle.making.specs.Making.{freshCall}
-use Rattle.demand.specs.Statement.{madeIn}
+use Rattle.making.specs.Making.{fresh_call}
+use Rattle.demand.specs.Statement.{made_in}
 use Rattle.trace_answers.proofs.Answering.{traces-are-answered}
-use Rattle.trace_turns.specs.Answered.{Turns-are-answered}
-use Rattle.trace_turns.specs.Turns.{atStart, OneTurn, Turns, last_turn, next_turn, Turns-are-a-cutting, Turns-write-the-lines}
+use Rattle.trace_turns.specs.Answered.{TurnsAreAnswered}
+use Rattle.trace_turns.specs.Turns.{at_start, OneTurn, Turns, last_turn, next_turn, TurnsAreACutting, TurnsWriteTheLines}
 use Rattle.trace_turns.proofs.Bounds.{Bounded, feed-bounded}
 
 past : (xs : List ℕ) (i : ℕ) → length xs ≤ i → get_or xs i 0 ≡ 0
@@ -154,14 +154,14 @@ module _ (sheet program trace : List ℕ) (bytes : (i : ℕ) → get_or trace i 
   turns-from p input rest s text after r (next_turn {text = more} out q input' rest' o e t) =
       next-cuts p input rest s out r q input' rest' more after o.room e (step_of p input rest s out r q input' rest' o) (λ reads. turns-from q input' rest' (run_of sheet program p input out s).after more after reads t)
 
-pub turns-cut : Turns-are-a-cutting
+pub turns-cut : TurnsAreACutting
 turns-cut sheet program trace input text s after bytes t =
-    turns-from sheet program trace bytes atStart input trace s text after (record { before = []; is = refl; at = refl; end = λ e. false_no refl e }) t
+    turns-from sheet program trace bytes at_start input trace s text after (record { before = []; is = refl; at = refl; end = λ e. false_no refl e }) t
 
-pub turns-write : Turns-write-the-lines
+pub turns-write : TurnsWriteTheLines
 turns-write sheet program trace input text s after bytes t = whole sheet program trace s after text (turns-cut sheet program trace input text s after bytes t)
 
-pub turns-answered : Turns-are-answered
+pub turns-answered : TurnsAreAnswered
 turns-answered sheet bytes forest next parsed esi program s room fits ghost trace input text after trace-bytes t =
-    let m = freshCall sheet esi program s in
-    traces-are-answered sheet bytes forest next parsed esi program s room fits ghost trace text after (turns-cut sheet m.program trace input text (madeIn s m) after trace-bytes t)
+    let m = fresh_call sheet esi program s in
+    traces-are-answered sheet bytes forest next parsed esi program s room fits ghost trace text after (turns-cut sheet m.program trace input text (made_in s m) after trace-bytes t)

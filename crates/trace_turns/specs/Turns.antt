@@ -3,12 +3,12 @@ use Rattle.std.specs.Prelude.{◌≡◌, true, false, List, ◌++◌, ℕ, ◌<�
 use Rattle.stack.specs.Stores.{Stores}
 use Rattle.trace_blocks.specs.Progress.{Sound, run_of, advanced, Turned}
 use Rattle.trace_blocks.specs.declared.Progress.{Progress}
-use Rattle.trace_lines.specs.Lines.{textOf, linesOf}
+use Rattle.trace_lines.specs.Lines.{text_of, lines_of}
 use Rattle.trace_lines.specs.Cuttings.{Cutting}
 
 -- Nothing is read yet.
-abbrev pub atStart : Progress
-atStart = record { at = 0; end = 0; place = 0; last = false; hungry = false; over = false }
+abbrev pub at_start : Progress
+at_start = record { at = 0; end = 0; place = 0; last = false; hungry = false; over = false }
 
 module _ (sheet program : List ℕ) where
   -- One turn, as `turn` promises it: it runs over what the buffer holds, and reads on where more is wanted. `rest` is what the reader has left.
@@ -27,13 +27,13 @@ module _ (sheet program : List ℕ) where
         → Turns p input rest s (take (run_of sheet program p input out s).fed.wrote (run_of sheet program p input out s).out ++ text) after
 
 -- Turns over a trace of bytes cut it into blocks, however much each read brings.
-abbrev pub Turns-are-a-cutting : Type 0
-Turns-are-a-cutting =
+abbrev pub TurnsAreACutting : Type 0
+TurnsAreACutting =
     (sheet program trace input text : List ℕ) (s after : Stores) → ((i : ℕ) → get_or trace i 0 < 256)
-    → Turns sheet program atStart input trace s text after → Cutting sheet program trace 0 s text after
+    → Turns sheet program at_start input trace s text after → Cutting sheet program trace 0 s text after
 
 -- So they write the text of its lines, and leave the stores after them.
-abbrev pub Turns-write-the-lines : Type 0
-Turns-write-the-lines =
+abbrev pub TurnsWriteTheLines : Type 0
+TurnsWriteTheLines =
     (sheet program trace input text : List ℕ) (s after : Stores) → ((i : ℕ) → get_or trace i 0 < 256)
-    → Turns sheet program atStart input trace s text after → (text ≡ textOf (linesOf sheet program trace s).lines) × (after ≡ (linesOf sheet program trace s).after)
+    → Turns sheet program at_start input trace s text after → (text ≡ text_of (lines_of sheet program trace s).lines) × (after ≡ (lines_of sheet program trace s).after)

@@ -3,12 +3,12 @@
 //! one function's promise is the statements.
 #![tactic(auto)]
 
-ghost use Rattle.trace_turns.specs.Answered.{Turns-are-answered};
-ghost use Rattle.trace_turns.specs.Turns.{Turns-are-a-cutting, Turns-write-the-lines};
+ghost use Rattle.trace_turns.specs.Answered.{TurnsAreAnswered};
+ghost use Rattle.trace_turns.specs.Turns.{TurnsAreACutting, TurnsWriteTheLines};
 
 /// Does nothing; it promises the theorems.
 pub fn turns_of_a_trace()
-    ensures cutting { Turns-are-a-cutting }
-    ensures lines { Turns-write-the-lines }
-    ensures answered { Turns-are-answered }
+    ensures cutting { TurnsAreACutting }
+    ensures lines { TurnsWriteTheLines }
+    ensures answered { TurnsAreAnswered }
 {}

@@ -3,7 +3,7 @@
 
 ghost use Rattle.std.specs.Prelude.{◌≡◌, ◌≤◌, length, get_or};
 ghost use Rattle.cells.specs.Stretches.{written};
-ghost use Rattle.stack.specs.Stores.{nameLimit, foundLimit, found_from, held_rows, heldName, heldFound, releasedRows, freshRows};
+ghost use Rattle.stack.specs.Stores.{name_limit, found_limit, found_from, held_rows, held_name, held_found, released_rows, fresh_rows};
 
 use cells::{at32, put32};
 use stack::copies::{copy8, copy16, copy32};
@@ -22,7 +22,7 @@ pub fn hold(
     at: u32,
     stop: u32,
 )
-    requires { (length name.now ≤ nameLimit) × (length found.now ≤ foundLimit) }
+    requires { (length name.now ≤ name_limit) × (length found.now ≤ found_limit) }
     ensures { (rows.new ≡ held_rows rows.old name.now kind found.now stage slot at stop) × (names.new ≡ written names.old 0 name.now) × (nodes.new ≡ written nodes.old found_from found.now) }
 {
     let record = [
@@ -42,14 +42,14 @@ pub fn hold(
 
 // It waits no longer.
 pub fn release(rows: &mut [u32])
-    ensures { rows.new ≡ releasedRows rows.old }
+    ensures { rows.new ≡ released_rows rows.old }
 {
     put32(rows, WAITS, 0);
 }
 
 // The name of the waiting tag; the answer is its length.
 pub fn held_name(rows: &[u32], names: &[u8], out: &mut [u8]) -> usize
-    ensures { (result ≡ get_or rows.now 5 0) × (out.new ≡ written out.old 0 (heldName rows.now names.now)) }
+    ensures { (result ≡ get_or rows.now 5 0) × (out.new ≡ written out.old 0 (held_name rows.now names.now)) }
 {
     let n = at32(rows, HELD_NAME);
     copy8(names, 0, n, out, 0);
@@ -58,7 +58,7 @@ pub fn held_name(rows: &[u32], names: &[u8], out: &mut [u8]) -> usize
 
 // The nodes found so far; the answer is how many.
 pub fn held_found(rows: &[u32], nodes: &[u16], out: &mut [u16]) -> usize
-    ensures { (result ≡ get_or rows.now 7 0) × (out.new ≡ written out.old 0 (heldFound rows.now nodes.now)) }
+    ensures { (result ≡ get_or rows.now 7 0) × (out.new ≡ written out.old 0 (held_found rows.now nodes.now)) }
 {
     let n = at32(rows, HELD_FOUND);
     copy16(nodes, FOUND, n, out, 0);
@@ -67,7 +67,7 @@ pub fn held_found(rows: &[u32], nodes: &[u16], out: &mut [u16]) -> usize
 
 // The header and the root's row of a fresh machine, whatever the store held.
 pub fn fresh_rows(rows: &mut [u32], mark: u32, sheet: u32, flags: u32)
-    ensures { rows.new ≡ freshRows rows.old mark sheet flags }
+    ensures { rows.new ≡ fresh_rows rows.old mark sheet flags }
 {
     let header = [
         0, 0, 0, 0, 0, 0, 0, 0, 0, 0, 0, 0, mark, sheet, flags, 0, 0, 0, 0, 0, 0, 0, 0, 0,

@@ -9,27 +9,27 @@ use lib.Dec.{ltb}
 use lib.ListN.{length, get_or, drop, set, drop_of_length-le}
 use lib.Seq.{drop-cons}
 use Rattle.cells.specs.Stretches.{written}
-use Rattle.letters.specs.Bytes.{lowerOf}
-use Rattle.stack.specs.Stores.{bearers, childBlock}
+use Rattle.letters.specs.Bytes.{lower_of}
+use Rattle.stack.specs.Stores.{bearers, child_block}
 
 -- the parents so far and the new ones
-module _ (program found : List ℕ) (a x k n m : ℕ) (e : a ≡ x) (l : n ≡ m) (c : k ≡ length (bearers program n childBlock found)) where
-  counted : k ≡ length (bearers program m childBlock found)
-  counted = c ∙ ap (λ (z : ℕ). length (bearers program z childBlock found)) l
+module _ (program found : List ℕ) (a x k n m : ℕ) (e : a ≡ x) (l : n ≡ m) (c : k ≡ length (bearers program n child_block found)) where
+  counted : k ≡ length (bearers program m child_block found)
+  counted = c ∙ ap (λ (z : ℕ). length (bearers program z child_block found)) l
 
-  pub too_many : 4096 < a + k → ltb 4096 (x + length (bearers program m childBlock found)) ≡ true
-  too_many h = lt-ltb 4096 (x + length (bearers program m childBlock found)) (rw (← e, ← counted) h)
+  pub too_many : 4096 < a + k → ltb 4096 (x + length (bearers program m child_block found)) ≡ true
+  too_many h = lt-ltb 4096 (x + length (bearers program m child_block found)) (rw (← e, ← counted) h)
 
-  pub few-enough : a + k ≤ 4096 → ltb 4096 (x + length (bearers program m childBlock found)) ≡ false
-  few-enough h = le-ltb 4096 (x + length (bearers program m childBlock found)) (rw (← e, ← counted) h)
+  pub few-enough : a + k ≤ 4096 → ltb 4096 (x + length (bearers program m child_block found)) ≡ false
+  few-enough h = le-ltb 4096 (x + length (bearers program m child_block found)) (rw (← e, ← counted) h)
 
 -- ---- lower-casing
 
-module _ (out₀ out name : List ℕ) (i : ℕ) (inv : written out₀ 0 (map lowerOf name) ≡ written out i (map lowerOf (drop i name))) where
-  pub lower-more : (last : List ℕ) (b : ℕ) → i < length name → b ≡ lowerOf (get_or name i 0) → last ≡ set out i b → written out₀ 0 (map lowerOf name) ≡ written last (i + 1) (map lowerOf (drop (i + 1) name))
+module _ (out₀ out name : List ℕ) (i : ℕ) (inv : written out₀ 0 (map lower_of name) ≡ written out i (map lower_of (drop i name))) where
+  pub lower-more : (last : List ℕ) (b : ℕ) → i < length name → b ≡ lower_of (get_or name i 0) → last ≡ set out i b → written out₀ 0 (map lower_of name) ≡ written last (i + 1) (map lower_of (drop (i + 1) name))
   unfolding written
   lower-more last b h e f = let d : drop i name ≡ get_or name i 0 ∷ drop (i + 1) name = rw (add-one i) (drop-cons name i 0 h) in inv ∙ rw (d, f, e)
 
-  pub lower-end : length name ≤ i → out ≡ written out₀ 0 (map lowerOf name)
+  pub lower-end : length name ≤ i → out ≡ written out₀ 0 (map lower_of name)
   unfolding written
   lower-end h = sym (inv ∙ rw (drop_of_length-le name h))

@@ -3,7 +3,7 @@ use Rattle.std.specs.Prelude.{◌≡◌, Bool, true, false, cond, not, List, ℕ
 use Rattle.std.proofs.Common.{sym, ◌∙◌, subst, arith, eq-eqb, ne_eqb, ltb-false, leb-false}
 use Rattle.shapes.specs.Passing.{all-passed}
 use Rattle.stack.specs.Stores.{opens}
-use Rattle.weighing.specs.Weighing.{badName, tagRefusal, pushRefusal, endRefusal}
+use Rattle.weighing.specs.Weighing.{is_bad_name, tag_refusal, push_refusal, end_refusal}
 
 -- a refusal's number, 0 or not
 module _ (r x : ℕ) (e : r ≡ x) where
@@ -15,31 +15,31 @@ module _ (r x : ℕ) (e : r ≡ x) where
 
 -- ---- what no refusal means
 
-name_of : (name : List ℕ) → badName name ≡ false → length name ≤ 63
-unfolding badName
+name_of : (name : List ℕ) → is_bad_name name ≡ false → length name ≤ 63
+unfolding is_bad_name
 name_of name e = go (eqb (length name) 0) e
   where
     go : (b : Bool) → cond b true (ltb 63 (length name)) ≡ false → length name ≤ 63
     go true q = absurd (subst T q tt)
     go false q = ltb-false _ _ q
 
-pub tag-passed : (rows : List ℕ) (namespace : ℕ) (name : List ℕ) (r : ℕ) → r ≡ tagRefusal rows namespace name → r ≡ 0 → (length name ≤ 63) × (namespace ≤ 2)
-unfolding tagRefusal
+pub tag-passed : (rows : List ℕ) (namespace : ℕ) (name : List ℕ) (r : ℕ) → r ≡ tag_refusal rows namespace name → r ≡ 0 → (length name ≤ 63) × (namespace ≤ 2)
+unfolding tag_refusal
 tag-passed rows namespace name r e z =
     let (a, e₁) = all-passed (not (eqb (get_or rows 4 0) 0)) 22 _ (omega arith) (sym e ∙ z) in
-    let (b, e₂) = all-passed (badName name) 20 _ (omega arith) e₁ in
+    let (b, e₂) = all-passed (is_bad_name name) 20 _ (omega arith) e₁ in
     let (c, e₃) = all-passed (ltb 2 namespace) 21 _ (omega arith) e₂ in
     (name_of name b, ltb-false _ _ c)
 
-pub end-passed : (rows name : List ℕ) (r : ℕ) → r ≡ endRefusal rows name → r ≡ 0 → length name ≤ 63
-unfolding endRefusal
+pub end-passed : (rows name : List ℕ) (r : ℕ) → r ≡ end_refusal rows name → r ≡ 0 → length name ≤ 63
+unfolding end_refusal
 end-passed rows name r e z =
     let (a, e₁) = all-passed (not (eqb (get_or rows 4 0) 0)) 22 _ (omega arith) (sym e ∙ z) in
-    let (b, e₂) = all-passed (badName name) 20 0 (omega arith) e₁ in
+    let (b, e₂) = all-passed (is_bad_name name) 20 0 (omega arith) e₁ in
     name_of name b
 
-pub push-passed : (sheet program rows : List ℕ) (content : Bool) (found : List ℕ) → pushRefusal sheet program rows content found ≡ 0 → content ≡ true → opens rows < 256
-unfolding pushRefusal
+pub push-passed : (sheet program rows : List ℕ) (content : Bool) (found : List ℕ) → push_refusal sheet program rows content found ≡ 0 → content ≡ true → opens rows < 256
+unfolding push_refusal
 push-passed sheet program rows content found e c =
     let (a, e₁) = all-passed (leb 256 (opens rows)) 27 _ (omega arith) (rw c at e) in
     leb-false _ _ a

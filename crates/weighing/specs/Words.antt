@@ -10,8 +10,8 @@ abbrev pub cell : ℕ → ℕ
 cell n = n % 4294967296
 
 -- No id.
-abbrev pub noIds : List ℕ
-noIds = 0 ∷ 0 ∷ []
+abbrev pub no_ids : List ℕ
+no_ids = 0 ∷ 0 ∷ []
 
 -- ---- what was written is the front of the local list
 

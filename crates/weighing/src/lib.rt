@@ -3,8 +3,8 @@
 
 ghost use Rattle.std.specs.Prelude.{◌≡◌, map};
 ghost use Rattle.cells.specs.Stretches.{written};
-ghost use Rattle.letters.specs.Bytes.{lowerOf};
-ghost use Rattle.weighing.specs.Weighing.{badName, tagRefusal, pairsFull, pushRefusal, attributesRefusal, endRefusal};
+ghost use Rattle.letters.specs.Bytes.{lower_of};
+ghost use Rattle.weighing.specs.Weighing.{is_bad_name, tag_refusal, pairs_full, push_refusal, attributes_refusal, end_refusal};
 ghost use Rattle.weighing.specs.Words.{cell};
 
 use cells::numbers::u16_at;
@@ -16,7 +16,7 @@ use shapes::counts_types;
 use stack::blocks::count_parents;
 
 pub fn is_bad_name(name: &[u8]) -> bool
-    ensures { result ≡ badName name.now }
+    ensures { result ≡ is_bad_name name.now }
 {
     if name.len() == 0 {
         return true;
@@ -26,7 +26,7 @@ pub fn is_bad_name(name: &[u8]) -> bool
 
 // Writes the lower-cased name to the front of a buffer.
 pub fn lower_into(name: &[u8], out: &mut [u8])
-    ensures { out.new ≡ written out.old 0 (map lowerOf name.now) }
+    ensures { out.new ≡ written out.old 0 (map lower_of name.now) }
 {
     let mut i = 0;
     while i < name.len() {
@@ -37,7 +37,7 @@ pub fn lower_into(name: &[u8], out: &mut [u8])
 
 // Start tag, before its name is looked for: 22, 20, 21, 25.
 pub fn tag_refusal(rows: &[u32], namespace: u32, name: &[u8]) -> u32
-    ensures { result ≡ tagRefusal rows.now namespace name.now }
+    ensures { result ≡ tag_refusal rows.now namespace name.now }
 {
     if at32(rows, 4) != 0 {
         return 22;
@@ -56,7 +56,7 @@ pub fn tag_refusal(rows: &[u32], namespace: u32, name: &[u8]) -> u32
 
 // 26, for a lower-cased name.
 pub fn are_pairs_full(rows: &[u32], names: &[u8], name: &[u8]) -> bool
-    ensures { result ≡ pairsFull rows.now names.now name.now }
+    ensures { result ≡ pairs_full rows.now names.now name.now }
 {
     if !counts_types(rows) {
         return false;
@@ -75,7 +75,7 @@ pub fn push_refusal(
     content: bool,
     found: &[u16],
 ) -> u32
-    ensures { result ≡ pushRefusal sheet.now program.now rows.now content found.now }
+    ensures { result ≡ push_refusal sheet.now program.now rows.now content found.now }
 {
     if !content {
         return 0;
@@ -91,7 +91,7 @@ pub fn push_refusal(
 
 // Attributes: 23, 24.
 pub fn attributes_refusal(rows: &[u32], input: &[u8], outlines: &[u32]) -> u32
-    ensures { result ≡ attributesRefusal rows.now input.now outlines.now }
+    ensures { result ≡ attributes_refusal rows.now input.now outlines.now }
 {
     if at32(rows, 4) == 0 {
         return 23;
@@ -104,7 +104,7 @@ pub fn attributes_refusal(rows: &[u32], input: &[u8], outlines: &[u32]) -> u32
 
 // End tag, before its name is looked for: 22, 20.
 pub fn end_refusal(rows: &[u32], name: &[u8]) -> u32
-    ensures { result ≡ endRefusal rows.now name.now }
+    ensures { result ≡ end_refusal rows.now name.now }
 {
     if at32(rows, 4) != 0 {
         return 22;

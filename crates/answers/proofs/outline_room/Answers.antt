@@ -1,7 +1,7 @@
 use mathlib.Core.Path.{refl}
-use Rattle.answers.specs.Answers.{outlineRoom}
+use Rattle.answers.specs.Answers.{outline_room}
 use Rattle.answers.proofs.outline_room.Goals as goal
 
 pub returns : goal.returns
-unfolding outlineRoom
+unfolding outline_room
 returns c = refl

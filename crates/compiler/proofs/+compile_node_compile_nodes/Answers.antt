@@ -2,7 +2,7 @@ use Rattle.std.proofs.Common.{◌*◌, arith, sym, ap, ◌∙◌, List, ℕ}
 use Rattle.std.proofs.lemmas.List.Edits.{sets}
 use Rattle.meaning.specs.Document.{child, descendant}
 use Rattle.sheet.proofs.SpellingLaws.{spelt-width}
-use Rattle.program.specs.Program.{row, instructionAt}
+use Rattle.program.specs.Program.{row, instruction_at}
 use Rattle.compiler.specs.Placing.{Laid}
 use Rattle.compiler.proofs.PlacingLaws.{size_is, trees-none, trees-again}
 use Rattle.compiler.proofs.RoomLaws.{unpack, child-room, middle, descendant-room, node-is, first-room, rest-room}
@@ -24,7 +24,7 @@ pub compile_node-put_instruction-requires-clause-slot_bound : goal.compile_node-
 compile_node-put_instruction-requires-clause-slot_bound t c = let o = unpack c.requires.room in let w = spelt-width o.children in let z = size_is (o.below child) in let hd = o.deep in let hr = o.room in let ho = o.own in let v = spelt-width o.descendants in let y = size_is (o.below descendant) in let m = middle c.requires.room c.links_at-links.ensures.next_value c.links_at-links.ensures.children_value c.links_at-links.ensures.descendants_value c.args.store.now c.compile_nodes-c.new.store c.compile_nodes-c.ensures.next_value c.compile_nodes-c.ensures.free_value in let m0 = m.0 in (omega arith, (omega arith, omega arith))
 
 pub compile_node-returns : goal.compile_node-returns
-compile_node-returns t c = let w = node-is c.requires.room c.links_at-links.ensures.next_value c.links_at-links.ensures.children_value c.links_at-links.ensures.descendants_value c.args.store.now c.compile_nodes-c.new.store c.compile_nodes-c.ensures.next_value c.compile_nodes-c.ensures.free_value c.compile_nodes-c.ensures.store_after in record { next_value = c.compile_nodes-d.ensures.next_value ∙ sym (ap (λ (l : Laid). l.next) w); free_value = c.compile_nodes-d.ensures.free_value ∙ sym (ap (λ (l : Laid). l.free) w); store_after = c.put_instruction.ensures ∙ ap (λ (x : List ℕ). sets x (c.args.slot * 8) (row (instructionAt c.args.s.now c.args.at c.args.free c.compile_nodes-c.result.free))) c.compile_nodes-d.ensures.store_after ∙ sym (ap (λ (l : Laid). l.store) w) }
+compile_node-returns t c = let w = node-is c.requires.room c.links_at-links.ensures.next_value c.links_at-links.ensures.children_value c.links_at-links.ensures.descendants_value c.args.store.now c.compile_nodes-c.new.store c.compile_nodes-c.ensures.next_value c.compile_nodes-c.ensures.free_value c.compile_nodes-c.ensures.store_after in record { next_value = c.compile_nodes-d.ensures.next_value ∙ sym (ap (λ (l : Laid). l.next) w); free_value = c.compile_nodes-d.ensures.free_value ∙ sym (ap (λ (l : Laid). l.free) w); store_after = c.put_instruction.ensures ∙ ap (λ (x : List ℕ). sets x (c.args.slot * 8) (row (instruction_at c.args.s.now c.args.at c.args.free c.compile_nodes-c.result.free))) c.compile_nodes-d.ensures.store_after ∙ sym (ap (λ (l : Laid). l.store) w) }
 
 pub compile_nodes-compile_node-placed-requires : goal.compile_nodes-compile_node-placed-requires
 compile_nodes-compile_node-placed-requires t c = (omega arith, (c.requires.s_len_bound, first-room (omega arith) c.loop-left.invariant.1.1))

@@ -1,7 +1,7 @@
 use native.Mathlib.Omega.{arith}
 use mathlib.Core.Path.{refl, sym, ap, ◌∙◌}
 use Prim.Native.Nat.{ℕ, ◌+◌, ◌-◌}
-use Rattle.compiler.specs.Placing.{recordsUse}
+use Rattle.compiler.specs.Placing.{records_use}
 use Rattle.compiler.proofs.RecordLaws.{records-first, records-none, records-found, records-more, tags-inside}
 use Rattle.compiler.proofs.uses_nth_of_type.Goals as goal
 
@@ -33,7 +33,7 @@ pub returns-then-any_of_type : goal.returns-then-any_of_type
 returns-then-any_of_type c = sym (c.loop-left.invariant.1 ∙ records-found c.args.s.now c.loop-left.here c.at8.ensures.0 c.at8-in-loop-left.ensures.0 c.any_of_type.ensures c.loop-left.left (omega arith) c.if-any_of_type.true)
 
 pub loop-left-preserved : goal.loop-left-preserved
-loop-left-preserved c = (let t = records-first c.args.s.now c.loop-left.left c.loop-left.here (omega arith) c.loop-left.invariant.0 in let te = t.0.ends in let tn = t.0.numbers in rw c.u16_at.ensures.0 t.1, c.loop-left.invariant.1 ∙ records-more c.args.s.now c.loop-left.here c.at8.ensures.0 c.at8-in-loop-left.ensures.0 c.any_of_type.ensures c.loop-left.left (omega arith) c.if-any_of_type.false ∙ ap (λ (x : ℕ). recordsUse c.args.s.now (c.loop-left.left - 1) (c.loop-left.here + 2 + x)) (sym c.u16_at.ensures.0))
+loop-left-preserved c = (let t = records-first c.args.s.now c.loop-left.left c.loop-left.here (omega arith) c.loop-left.invariant.0 in let te = t.0.ends in let tn = t.0.numbers in rw c.u16_at.ensures.0 t.1, c.loop-left.invariant.1 ∙ records-more c.args.s.now c.loop-left.here c.at8.ensures.0 c.at8-in-loop-left.ensures.0 c.any_of_type.ensures c.loop-left.left (omega arith) c.if-any_of_type.false ∙ ap (λ (x : ℕ). records_use c.args.s.now (c.loop-left.left - 1) (c.loop-left.here + 2 + x)) (sym c.u16_at.ensures.0))
 
 pub returns : goal.returns
 returns c = sym (c.loop-left.invariant.1 ∙ records-none c.args.s.now c.loop-left.left c.loop-left.here (omega arith))

@@ -1,10 +1,10 @@
-use Rattle.course.specs.Course.{hasContent}
+use Rattle.course.specs.Course.{has_content}
 use Rattle.course.proofs.has_content.Goals as goal
 
 pub returns-then-is_html : goal.returns-then-is_html
-unfolding hasContent
+unfolding has_content
 returns-then-is_html c = rw (← c.is_html.ensures, c.if-is_html.true)
 
 pub returns : goal.returns
-unfolding hasContent
+unfolding has_content
 returns c = rw (← c.is_html.ensures, c.if-is_html.false)

@@ -1,7 +1,7 @@
 use mathlib.Core.Path.{refl}
-use Rattle.course.specs.Course.{isHtml}
+use Rattle.course.specs.Course.{is_html}
 use Rattle.course.proofs.is_html.Goals as goal
 
 pub returns : goal.returns
-unfolding isHtml
+unfolding is_html
 returns c = refl

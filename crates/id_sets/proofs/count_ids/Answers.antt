@@ -2,7 +2,7 @@ use mathlib.Core.Path.{◌≡◌, refl, ◌∙◌}
 use native.Mathlib.Omega.{arith}
 use Prim.Native.Nat.{ℕ, ◌^◌, ◌≤◌, ◌<◌}
 use lib.Count.{ones, ones-le}
-use Rattle.id_sets.specs.Ids.{idsFrom, ids_of}
+use Rattle.id_sets.specs.Ids.{ids_from, ids_of}
 use Rattle.id_sets.proofs.IdSteps.{counted, count_past}
 use Rattle.id_sets.proofs.count_ids.Goals as goal
 
@@ -10,7 +10,7 @@ few : (w : ℕ) → w < 2 ^ 64 → ones w ≤ 64
 few w h = ones-le 64 w h
 
 pub loop-i-init : goal.loop-i-init
-unfolding idsFrom
+unfolding ids_from
 loop-i-init c = (omega arith, (omega arith, refl))
 
 pub returns-then-words-i : goal.returns-then-words-i

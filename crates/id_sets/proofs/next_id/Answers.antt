@@ -1,7 +1,7 @@
 use mathlib.Core.Path.{◌≡◌, sym, ap, ◌∙◌}
 use native.Mathlib.Omega.{arith}
 use Prim.Native.Nat.{ℕ, ◌+◌, ◌-◌, ◌*◌, ◌/◌, ◌%◌, ◌≤◌}
-use Rattle.id_sets.specs.Ids.{idsFrom, first_of}
+use Rattle.id_sets.specs.Ids.{ids_from, first_of}
 use Rattle.id_sets.proofs.IdSteps.{next-found, next_small, next-later, next-none, next_past}
 use Rattle.id_sets.proofs.next_id.Goals as goal
 
@@ -13,7 +13,7 @@ last : {i : ℕ} (passed : ℕ) → 1024 ≤ i → 65536 ≤ i * 64 + passed
 last passed h = omega arith
 
 pub loop-i-init : goal.loop-i-init
-loop-i-init c = let e : c.args.from / 64 * 64 + c.args.from % 64 ≡ c.args.from = omega arith in (omega arith, ap (λ (x : ℕ). idsFrom c.args.words.now x (65536 - x)) (sym e))
+loop-i-init c = let e : c.args.from / 64 * 64 + c.args.from % 64 ≡ c.args.from = omega arith in (omega arith, ap (λ (x : ℕ). ids_from c.args.words.now x (65536 - x)) (sym e))
 
 pub returns-then-words-i : goal.returns-then-words-i
 returns-then-words-i c = next_past _ _ _ (past c.loop-i.passed c.if-words-i.true) ∙ ap first_of (sym c.loop-i.invariant.1)

@@ -3,12 +3,12 @@ use mathlib.Core.Path.{◌≡◌}
 use lib.ListN.{length}
 use Rattle.id_sets.specs.Ids.{ids_of}
 use Rattle.cells.specs.Stretches.{written}
-use Rattle.match_lines.specs.MatchLines.{idsText}
+use Rattle.match_lines.specs.MatchLines.{ids_text}
 use Rattle.match_lines.proofs.Laws.{Rest}
 use Rattle.match_lines.proofs.put_ids.Given as goal
 
 abbrev pub invariant-loop-from : goal.invariant-loop-from
-invariant-loop-from l = (length l.out ≡ length l.initial.out) × (l.from ≤ 65536) × (l.from ≤ 64 * length l.words) × (l.next ≤ l.at + 21 * l.from) × (l.at + length (idsText (ids_of l.words)) ≡ l.next + length (Rest l.words l.from)) × (written l.initial.out l.at (idsText (ids_of l.words)) ≡ written l.out l.next (Rest l.words l.from))
+invariant-loop-from l = (length l.out ≡ length l.initial.out) × (l.from ≤ 65536) × (l.from ≤ 64 * length l.words) × (l.next ≤ l.at + 21 * l.from) × (l.at + length (ids_text (ids_of l.words)) ≡ l.next + length (Rest l.words l.from)) × (written l.initial.out l.at (ids_text (ids_of l.words)) ≡ written l.out l.next (Rest l.words l.from))
 
 abbrev pub decreases-loop-from : goal.decreases-loop-from
 decreases-loop-from l = 65536 - l.from

@@ -1,12 +1,12 @@
 use mathlib.Core.Path.{refl, sym, ◌∙◌}
 use native.Mathlib.Omega.{arith}
-use Rattle.operators.specs.Operators.{split, includesHolds}
+use Rattle.operators.specs.Operators.{split, includes_holds}
 use Rattle.operators.proofs.Turns.{turn-hit, turn-space, turn-other, last-part, rest-is}
 use Rattle.operators.proofs.matches_splitted_by_whitespace.Goals as goal
 use Rattle.operators.proofs.matches_splitted_by_whitespace.Goals.{then-is_attr_whitespace+else-same, else-is_attr_whitespace}
 
 pub loop-i-init : goal.loop-i-init
-unfolding includesHolds split
+unfolding includes_holds split
 loop-i-init c = (omega arith, (omega arith, refl))
 
 pub returns-then-same : goal.returns-then-same

@@ -1,6 +1,6 @@
-use Rattle.shapes.specs.Shapes.{typesCounted}
+use Rattle.shapes.specs.Shapes.{types_counted}
 use Rattle.shapes.proofs.counts_types.Goals as goal
 
 pub returns : goal.returns
-unfolding typesCounted
+unfolding types_counted
 returns c = rw c.get32.ensures

@@ -1,6 +1,6 @@
 use mathlib.Core.Path.{ap, ◌∙◌}
 use Rattle.shapes.proofs.Steps.{over, within, is, is-not, too_short, long-enough}
-use Rattle.shapes.specs.Shapes.{headerShaped, shaped}
+use Rattle.shapes.specs.Shapes.{header_shaped, shaped}
 use Rattle.shapes.proofs.is_shaped.Goals as goal
 
 pub returns-then-at32-ne1383429737 : goal.returns-then-at32-ne1383429737
@@ -21,4 +21,4 @@ returns-then-program-count c = simp (is _ _ _ c.at32.ensures.0 c.if-at32-ne13834
 
 pub returns : goal.returns
 unfolding shaped
-returns c = simp (is _ _ _ c.at32.ensures.0 c.if-at32-ne1383429737.false, is _ _ _ c.at32-2.ensures.0 c.if-at32-sheet.false, within _ _ _ c.u16_at-count.ensures.0 c.if-count-gt1024.false, long-enough _ _ _ c.u16_at-count.ensures.0 c.if-program-count.false) (c.is_header_shaped.ensures ∙ ap (headerShaped _) c.u16_at-count.ensures.0)
+returns c = simp (is _ _ _ c.at32.ensures.0 c.if-at32-ne1383429737.false, is _ _ _ c.at32-2.ensures.0 c.if-at32-sheet.false, within _ _ _ c.u16_at-count.ensures.0 c.if-count-gt1024.false, long-enough _ _ _ c.u16_at-count.ensures.0 c.if-program-count.false) (c.is_header_shaped.ensures ∙ ap (header_shaped _) c.u16_at-count.ensures.0)

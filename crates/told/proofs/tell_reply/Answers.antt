@@ -1,6 +1,6 @@
-use Rattle.told.specs.Told.{replyTold}
+use Rattle.told.specs.Told.{reply_told}
 use Rattle.told.proofs.tell_reply.Goals as goal
 
 pub returns : goal.returns
-unfolding replyTold
+unfolding reply_told
 returns c = c.tell_answer.ensures

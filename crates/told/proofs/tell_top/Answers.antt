@@ -1,8 +1,8 @@
-use Rattle.told.proofs.Telling.{top-ids, top-none, top-refused}
+use Rattle.told.proofs.Telling.{top_ids, top-none, top-refused}
 use Rattle.told.proofs.tell_top.Goals as goal
 
 pub returns-in-Ids : goal.returns-in-Ids
-returns-in-Ids c = top-ids _ _ _ c.in-Ids.is
+returns-in-Ids c = top_ids _ _ _ c.in-Ids.is
 
 pub returns-in-NothingOpen : goal.returns-in-NothingOpen
 returns-in-NothingOpen c = top-none _ _ _ c.in-NothingOpen.is

@@ -1,6 +1,6 @@
-use Rattle.told.specs.Told.{topReplyTold}
+use Rattle.told.specs.Told.{top_reply_told}
 use Rattle.told.proofs.tell_top_reply.Goals as goal
 
 pub returns : goal.returns
-unfolding topReplyTold
+unfolding top_reply_told
 returns c = c.tell_top.ensures

@@ -1,17 +1,17 @@
 use mathlib.Core.Path.{ap}
 use mathlib.Core.Bool.{not}
 use Rattle.shapes.proofs.Steps.{is, is-not}
-use Rattle.weighing.specs.Weighing.{attributesRefusal}
+use Rattle.weighing.specs.Weighing.{attributes_refusal}
 use Rattle.weighing.proofs.attributes_refusal.Goals as goal
 
 pub returns-then-at32-eq0 : goal.returns-then-at32-eq0
-unfolding attributesRefusal
+unfolding attributes_refusal
 returns-then-at32-eq0 c = simp (is _ _ _ c.at32.ensures.0 c.if-at32-eq0.true)
 
 pub returns-then-not-good_outlines : goal.returns-then-not-good_outlines
-unfolding attributesRefusal
+unfolding attributes_refusal
 returns-then-not-good_outlines c = simp (is-not _ _ _ c.at32.ensures.0 c.if-at32-eq0.false, ← c.good_outlines.ensures, (ap not c.if-not-good_outlines.true))
 
 pub returns : goal.returns
-unfolding attributesRefusal
+unfolding attributes_refusal
 returns c = simp (is-not _ _ _ c.at32.ensures.0 c.if-at32-eq0.false, ← c.good_outlines.ensures, (ap not c.if-not-good_outlines.false))

@@ -3,7 +3,7 @@ use mathlib.Core.List.{[]}
 use Prim.Native.Nat.{◌-◌}
 use native.Mathlib.Omega.{arith}
 use Rattle.exec.specs.Scans.{live}
-use Rattle.candidates.specs.Candidates.{fromKeyed}
+use Rattle.candidates.specs.Candidates.{from_keyed}
 use Rattle.exec.proofs.ScanTurns.{At, reached-at, reached-over, adds_none, adds_one, adds-up, all-over, all-find, tag-refuses, attributes-refuse}
 use Rattle.exec.proofs.scan.scan_attributes.Goals as goal
 

@@ -1,13 +1,13 @@
 use mathlib.Core.Path.{◌≡◌}
 use Prim.Native.Nat.{◌+◌, ◌-◌, ◌≤◌}
 use lib.ListN.{length}
-use Rattle.rules.specs.Attributes.{attributesOf}
-use Rattle.exec.specs.Scans.{attributeScan}
+use Rattle.rules.specs.Attributes.{attributes_of}
+use Rattle.exec.specs.Scans.{attribute_scan}
 use Rattle.exec.proofs.ScanTurns.{Adding}
 use Rattle.exec.proofs.scan.scan_attributes.Given as goal
 
 abbrev pub invariant-loop-d : goal.invariant-loop-d
-invariant-loop-d l = (l.all + l.left ≤ l.count + l.budget) × ((length l.found ≡ length l.initial.found) × Adding l.count l.initial.found (attributeScan l.sheet l.program l.nodes l.ranges l.name l.key l.child l.of_type l.html (attributesOf l.input l.outlines) l.initial.c l.budget (length l.sheet)) l.found l.all (attributeScan l.sheet l.program l.nodes l.ranges l.name l.key l.child l.of_type l.html (attributesOf l.input l.outlines) l.c l.left l.bytes))
+invariant-loop-d l = (l.all + l.left ≤ l.count + l.budget) × ((length l.found ≡ length l.initial.found) × Adding l.count l.initial.found (attribute_scan l.sheet l.program l.nodes l.ranges l.name l.key l.child l.of_type l.html (attributes_of l.input l.outlines) l.initial.c l.budget (length l.sheet)) l.found l.all (attribute_scan l.sheet l.program l.nodes l.ranges l.name l.key l.child l.of_type l.html (attributes_of l.input l.outlines) l.c l.left l.bytes))
 
 abbrev pub decreases-loop-d : goal.decreases-loop-d
 decreases-loop-d l = l.left

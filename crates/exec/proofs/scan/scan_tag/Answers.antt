@@ -3,7 +3,7 @@ use mathlib.Core.List.{[]}
 use Prim.Native.Nat.{◌-◌}
 use native.Mathlib.Omega.{arith}
 use Rattle.exec.specs.Scans.{live}
-use Rattle.candidates.specs.Candidates.{fromKeyed}
+use Rattle.candidates.specs.Candidates.{from_keyed}
 use Rattle.exec.proofs.ScanTurns.{At, reached-at, reached-over, goes_on, goes-found, goes-out, goes-stuck, tag-over, tag-fails, tag-stops, tag-finds}
 use Rattle.exec.proofs.scan.scan_tag.Goals as goal
 
