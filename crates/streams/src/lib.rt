@@ -1,10 +1,11 @@
 //! Reads that tell a failure from an end. A call that a signal interrupts is made again.
 #![tactic(auto)]
 
-ghost use Rattle.std.specs.Prelude.{◌≡◌, ◌≢◌, ◌+◌, ◌<◌, ◌≤◌, length, take, drop, IfOk, IfErr, OnErr};
+ghost use Rattle.std.specs.Prelude.{◌≡◌, ◌≢◌, ◌+◌, ◌<◌, ◌≤◌, length, take, drop, slice_range, IfOk, IfErr, OnErr};
 ghost use Rattle.std.specs.IoError.{error_kind};
 ghost use Rattle.std.specs.Io.{ReadsAtMost};
 ghost use Rattle.std.specs.Io.KnownBytes.{Consumes, IsAtEnd, Keeps};
+ghost use Rattle.streams.specs.Failing.{ConsumesFront};
 
 use std::io::{Error, ErrorKind, Read, Result};
 
@@ -47,6 +48,7 @@ pub fn read_full<R: Read>(reader: &mut R, room: &mut [u8]) -> Result<usize>
     ensures bound { ReadsAtMost result room.new }
     ensures ok { IfOk result (λ n. Consumes (R.remaining reader.old) (R.remaining reader.new) (take n room.new)) }
     ensures end { IfOk result (λ n. n < length room.old → IsAtEnd (R.remaining reader.new)) }
+    ensures failed { OnErr result (ConsumesFront (R.remaining reader.old) (R.remaining reader.new) room.new) }
     ensures retried { IfErr result (λ e. error_kind e ≢ ErrorKind.Interrupted) }
 {
     let mut done = 0;
@@ -72,6 +74,7 @@ pub fn read_between<R: Read>(
     ensures fits { IfOk result (λ n. from + n ≤ to) }
     ensures ok { IfOk result (λ n. Consumes (R.remaining reader.old) (R.remaining reader.new) (take n (drop from room.new))) }
     ensures end { IfOk result (λ n. from + n < to → IsAtEnd (R.remaining reader.new)) }
+    ensures failed { OnErr result (ConsumesFront (R.remaining reader.old) (R.remaining reader.new) (slice_range room.new from to)) }
     ensures retried { IfErr result (λ e. error_kind e ≢ ErrorKind.Interrupted) }
 {
     read_full(reader, &mut room[from..to])
