@@ -4,7 +4,7 @@ use Rattle.std.proofs.Math.Seq.{drop-cons}
 use Rattle.std.proofs.lemmas.Bool.{eqb-true}
 use Rattle.std.specs.Io.KnownBytes.{Consumes, IsAtEnd}
 use Rattle.cells.specs.Stretches.{cells_from, written, length-written, length-cells, cells_in}
-use Rattle.trace_blocks.specs.Progress.{Refilled, ReadOn}
+use Rattle.trace_blocks.specs.Progress.{Refilled, ReadOn, InFront}
 use Rattle.trace_blocks.specs.declared.Progress.{Progress}
 
 pub cells_are : (xs : List ℕ) (a n : ℕ) → a + n ≤ length xs → cells_from xs a n ≡ take n (drop a xs)
@@ -25,6 +25,13 @@ front_is xs a n h =
     let room : 0 + n ≤ length (written xs 0 vs) = rw (length-written xs 0 vs) (omega arith) in
     sym (cells_are (written xs 0 vs) 0 n room) ∙ stands ∙ cells_are xs a n h
 
+-- The bytes that were kept stand at the front, and what is read behind them leaves them there.
+pub in_front : (p : Progress) (input mid input' : List ℕ) (kept : ℕ) → p.at ≤ p.end → p.end ≤ length input
+    → kept ≡ p.end - p.at → mid ≡ written input 0 (cells_from input p.at (p.end - p.at)) → take kept input' ≡ take kept mid → InFront p input input'
+in_front p input mid input' kept inside fits is wrote front =
+    let n = p.end - p.at in
+    subst (λ (k : ℕ). take k input' ≡ take k mid) is front ∙ ap (take n) wrote ∙ front_is input p.at n (omega arith)
+
 pub read_on : (old new : Option (List ℕ)) (p : Progress) (input mid input' : List ℕ) (kept more : ℕ) → p.at ≤ p.end → p.end ≤ length input
     → kept ≡ p.end - p.at → mid ≡ written input 0 (cells_from input p.at (p.end - p.at))
     → take kept input' ≡ take kept mid → Consumes old new (take more (drop kept input')) → (more ≡ 0 → kept < length mid → IsAtEnd new)
@@ -32,8 +39,7 @@ pub read_on : (old new : Option (List ℕ)) (p : Progress) (input mid input' : L
 read_on old new p input mid input' kept more inside fits is wrote front taken end =
     let n = p.end - p.at in
     let long : length mid ≡ length input = ap length wrote ∙ length-written input 0 (cells_from input p.at n) in
-    let stood : take n input' ≡ take n (drop p.at input) =
-    subst (λ (k : ℕ). take k input' ≡ take k mid) is front ∙ ap (take n) wrote ∙ front_is input p.at n (omega arith) in
+    let stood : take n input' ≡ take n (drop p.at input) = in_front p input mid input' kept inside fits is wrote front in
     let size : more ≡ kept + more - n = omega arith in
     let got : Consumes old new (take (kept + more - n) (drop n input')) = subst (λ (k : ℕ). Consumes old new (take (kept + more - n) (drop k input'))) is (subst (λ (k : ℕ). Consumes old new (take k (drop kept input'))) size taken) in
     record {

@@ -34,6 +34,10 @@ advanced p f = record { at = p.at + f.used; end = p.end; place = p.place + f.use
 abbrev pub ended : Progress → Progress
 ended p = record { at = p.at; end = p.end; place = p.place; last = true; hungry = true; over = true }
 
+-- The bytes that were still to be read stand at the buffer's front.
+abbrev pub InFront : Progress → (input input' : List ℕ) → Type 0
+InFront p input input' = take (p.end - p.at) input' ≡ slice_range input p.at p.end
+
 -- More was read: the bytes that were still to be read stand at the buffer's front, and behind them what the reader gave. None came
 -- where the input ends. A reader's bytes are known before the read as `old`, after it as `new`.
 pub record ReadOn (old new : Option (List ℕ)) (p : Progress) (input : List ℕ) (q : Progress) (input' : List ℕ) : Type 0 where

@@ -1,12 +1,13 @@
 //! A trace read, answered and written block by block: a cut record is kept for the next block.
 #![tactic(auto)]
 
-ghost use Rattle.std.specs.Prelude.{◌≡◌, ◌≢◌, ◌+◌, ◌<◌, ◌≤◌, length, take, drop, IfSome, IfOk, IfErr, OnOk, OnErr};
+ghost use Rattle.std.specs.Prelude.{◌≡◌, ◌≢◌, ◌+◌, ◌<◌, ◌≤◌, ◌⊎◌, length, take, drop, IfSome, IfOk, IfErr, OnOk, OnErr};
 ghost use Rattle.std.specs.IoError.{error_kind};
 ghost use Rattle.std.specs.Io.KnownBytes.{Appends, Consumes, IsAtEnd, Keeps};
 ghost use Rattle.records.specs.Sheets.{sheet_length, sheet_end};
 ghost use Rattle.stack.specs.Stores.{stores};
-ghost use Rattle.trace_blocks.specs.Progress.{Sound, run_of, advanced, Refilled, Turned};
+ghost use Rattle.trace_blocks.specs.Progress.{Sound, run_of, advanced, Refilled, Turned, InFront};
+ghost use Rattle.streams.specs.Failing.{ConsumesFront};
 
 use block_ends::{Fed, Halt};
 use records::{keep, sheet_length};
@@ -45,6 +46,7 @@ fn refill<R: Read>(reader: &mut R, p: Progress, input: &mut [u8]) -> Result<Prog
     ensures sound { IfOk result (λ q. Sound q (length input.new) × (q.place ≡ p.place)) }
     ensures value { IfOk result (λ q. Refilled p.last (R.remaining reader.old) (R.remaining reader.new) p input.old q input.new) }
     ensures failed { OnErr result (Keeps (R.remaining reader.old) (R.remaining reader.new)) }
+    ensures kept { OnErr result (InFront p input.old input.new) }
     ensures retried { IfErr result (λ e. error_kind e ≢ ErrorKind.Interrupted) }
 {
     if p.last {
@@ -112,6 +114,7 @@ fn answer_block<W: Write>(
     ensures sound { IfOk result (λ q. Sound q (length input.now) × (q.place ≤ p.place + 131072)) }
     ensures answered { let run = run_of sheet.now program.now p input.now out.old (stores rows.old names.old ids.old nodes.old) in (out.new ≡ run.out) × (stores rows.new names.new ids.new nodes.new ≡ run.after) }
     ensures value { let run = run_of sheet.now program.now p input.now out.old (stores rows.old names.old ids.old nodes.old) in IfOk result (λ q. q ≡ advanced p run.fed) }
+    // After a failed write nothing is known of what the writer took.
     ensures written { let run = run_of sheet.now program.now p input.now out.old (stores rows.old names.old ids.old nodes.old) in OnOk result (Appends (W.contents writer.old) (W.contents writer.new) (take run.fed.wrote run.out)) }
 {
     let at = p.at;
@@ -151,7 +154,10 @@ pub fn turn<R: Read, W: Write>(
     ensures sound { IfOk result (λ q. Sound q (length input.new) × (q.place ≤ p.place + 131072)) }
     ensures answered { let run = run_of sheet.now program.now p input.old out.old (stores rows.old names.old ids.old nodes.old) in (out.new ≡ run.out) × (stores rows.new names.new ids.new nodes.new ≡ run.after) }
     ensures value { let run = run_of sheet.now program.now p input.old out.old (stores rows.old names.old ids.old nodes.old) in let next = advanced p run.fed in IfOk result (λ q. Turned next.over next.hungry (R.remaining reader.old) (R.remaining reader.new) next input.old q input.new) }
+    // After a failed write nothing is known of what the writer took.
     ensures written { let run = run_of sheet.now program.now p input.old out.old (stores rows.old names.old ids.old nodes.old) in OnOk result (Appends (W.contents writer.old) (W.contents writer.new) (take run.fed.wrote run.out)) }
+    ensures failed { OnErr result (Keeps (R.remaining reader.old) (R.remaining reader.new)) }
+    ensures kept { let run = run_of sheet.now program.now p input.old out.old (stores rows.old names.old ids.old nodes.old) in OnErr result ((input.new ≡ input.old) ⊎ InFront (advanced p run.fed) input.old input.new) }
 {
     let next = answer_block(
         writer, p, sheet, program, rows, names, ids, nodes, input, out,
@@ -172,6 +178,7 @@ pub fn read_sheet<R: Read>(reader: &mut R, sheet: &mut [u8]) -> Result<usize>
     ensures said { IfOk result (λ n. 5 ≤ n → n ≤ sheet_length sheet.new) }
     ensures value { IfOk result (λ n. IfSome (R.remaining reader.old) (λ input. (n ≡ sheet_end input) × (take n sheet.new ≡ take n input))) }
     ensures taken { IfOk result (λ n. 5 ≤ n → Consumes (R.remaining reader.old) (R.remaining reader.new) (take n sheet.new)) }
+    ensures failed { OnErr result (ConsumesFront (R.remaining reader.old) (R.remaining reader.new) sheet.new) }
     ensures retried { IfErr result (λ e. error_kind e ≢ ErrorKind.Interrupted) }
 {
     let got = read_between(reader, sheet, 0, 5)?;

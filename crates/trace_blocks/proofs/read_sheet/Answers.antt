@@ -1,5 +1,5 @@
-use Rattle.std.proofs.Common.{◌+◌, arith, sym, ◌∙◌}
-use Rattle.streams.proofs.Taken.{Consumes-more}
+use Rattle.std.proofs.Common.{◌+◌, ◌-◌, arith, sym, ◌∙◌, drop}
+use Rattle.streams.proofs.Taken.{Consumes-more, ConsumesFront-take, ConsumesFront-behind, OnErr-always}
 use Rattle.trace_blocks.proofs.SheetsTaken.{taken_short, taken_stub, taken_whole, first_five, length_in_front}
 use Rattle.trace_blocks.proofs.read_sheet.Goals as goal
 
@@ -33,3 +33,19 @@ returns-clause-value g c =
     let first = first_five old mid c.read_between.new.room c.in_ok-got.got r.ok (omega arith) (omega arith) in
     let all = Consumes-more old mid new c.read_between.new.room c.read_between-2.new.room 5 c.in_ok-more.more q.front first q.ok in
     taken_whole old new c.read_between-2.new.room (5 + c.in_ok-more.more) all (omega arith) (omega arith) (omega arith) (λ k. q.end (omega arith))
+
+pub returns-in_err-got-clause-failed : goal.returns-in_err-got-clause-failed
+returns-in_err-got-clause-failed g c =
+    OnErr-always c.from_residual.result
+    (ConsumesFront-take (g.R.Read.remaining c.args.reader.now) (g.R.Read.remaining c.read_between.new.reader) 5 c.read_between.new.room c.in_err-got.ensures.failed)
+
+pub returns-in_err-more-clause-failed : goal.returns-in_err-more-clause-failed
+returns-in_err-more-clause-failed g c =
+    let r = c.in_ok-got.ensures in
+    let q = c.in_err-more.ensures in
+    let old = g.R.Read.remaining c.args.reader.now in
+    let mid = g.R.Read.remaining c.read_between.new.reader in
+    let new = g.R.Read.remaining c.read_between-2.new.reader in
+    let first = first_five old mid c.read_between.new.room c.in_ok-got.got r.ok (omega arith) (omega arith) in
+    let behind = ConsumesFront-take mid new (c.sheet_length-length.result - 5) (drop 5 c.read_between-2.new.room) q.failed in
+    OnErr-always c.from_residual-in_err-more.result (ConsumesFront-behind old mid new c.read_between.new.room c.read_between-2.new.room 5 q.front first behind)
