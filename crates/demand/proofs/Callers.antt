@@ -62,29 +62,21 @@ top-either : (b : Bool) (x y : TopReply) → TopKept x → TopKept y → TopKept
 top-either true x y p q = p
 top-either false x y p q = q
 
+abbrev is_ids : Top → Bool
+is_ids Top.Ids = true
+is_ids Top.NothingOpen = false
+is_ids (Top.Refused n) = false
+
+other-top : (a : Top) → (T (is_ids a) → ⊥) → a ≡ Top.Ids → ⊥
+other-top a other e = other (subst T (sym (ap is_ids e)) tt)
+
 top-reliable : (l : List ℕ) (a : Top) (ids : List ℕ) → (T (has 0 l) → ⊥) → ((a ≡ Top.Ids) ⊎ (ids ≡ no_ids)) → ((n : ℕ) → a ≡ Top.Refused n → n ∈ l) → Reliable l (top_told a (get_or ids 0 0) (get_or ids 1 0))
 unfolding top_told
 top-reliable l Top.Ids ids none kept named = (λ h k. absurd (k refl), (λ h. absurd (omega arith), λ h. refl))
-top-reliable l Top.NothingOpen ids none (inl e) named = absurd (other-top e)
-  where
-    is_ids : Top → Bool
-    is_ids Top.Ids = true
-    is_ids Top.NothingOpen = false
-    is_ids (Top.Refused n) = false
-
-    other-top : Top.NothingOpen ≡ Top.Ids → ⊥
-    other-top q = subst T (sym (ap is_ids q)) tt
+top-reliable l Top.NothingOpen ids none (inl e) named = absurd (other-top Top.NothingOpen (λ t. t) e)
 top-reliable l Top.NothingOpen ids none (inr e) named =
     (λ h k. (ap (λ (z : List ℕ). get_or z 0 0) e, ap (λ (z : List ℕ). get_or z 1 0) e), (λ h. absurd (omega arith), λ h. refl))
-top-reliable l (Top.Refused n) ids none (inl e) named = absurd (other-top e)
-  where
-    is_ids : Top → Bool
-    is_ids Top.Ids = true
-    is_ids Top.NothingOpen = false
-    is_ids (Top.Refused k) = false
-
-    other-top : Top.Refused n ≡ Top.Ids → ⊥
-    other-top q = subst T (sym (ap is_ids q)) tt
+top-reliable l (Top.Refused n) ids none (inl e) named = absurd (other-top (Top.Refused n) (λ t. t) e)
 top-reliable l (Top.Refused n) ids none (inr e) named =
     (λ h k. (ap (λ (z : List ℕ). get_or z 0 0) e, ap (λ (z : List ℕ). get_or z 1 0) e), (λ h. (named n refl, not-none l n none (named n refl)), λ h. absurd (h refl)))
 

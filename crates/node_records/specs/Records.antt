@@ -50,7 +50,7 @@ pub record NodeRecord : Type 0 where
   pub tag_tests : List (Negatable TagTest)
   pub attribute_tests : List (Negatable AttributeTest)
 
--- The record at a place, tests in the terms of `rules`.
+-- The record at a place, tests in the terms of `node_tests`.
 unfoldable pub record_at : List ℕ → ℕ → NodeRecord
 record_at s at = record {
   place = at;

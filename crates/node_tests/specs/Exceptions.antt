@@ -5,19 +5,19 @@ use Rattle.std.proofs.Common.{◌∙◌, inl, inr, ⊎_elim, arith}
 use Rattle.std.proofs.Math.Logic.Iff
 use Rattle.std.proofs.Math.Bool.{true, false}
 use mathlib.Core.List.{List, [], ◌∷◌}
-use Rattle.std.proofs.Math.Option.{Option, none, some}
 use Rattle.letters.specs.Bytes.{fold, equal_bytes, same_bytes}
 use Rattle.letters.specs.BytesLaws.{equal→eq, equal-refl}
 use Rattle.nth.specs.Nth.{Nth}
 use Rattle.nth.specs.NthLaws.{nth-law}
 use Rattle.names.specs.NameLaws.{fold-twice, name-law}
 use Rattle.rules.specs.Attributes.{Attribute, lookup}
-use Rattle.rules.specs.AttributeLaws.{lookup-law, there-law, exact, any-case-law, there-any-case}
+use Rattle.rules.specs.AttributeLaws.{lowered-first, there-law, exact, any-case-law, there-any-case}
+use Rattle.node_tests.specs.LoweredLaws as lowered
 use Rattle.operators.specs.Operators.{operator_holds, value_holds}
 use Rattle.operators.specs.OperatorLaws.{equal-law, includes-law, dash-law, prefix-law, suffix-law, substring-law}
 use Rattle.node_tests.specs.Tests.{TagTest, any, unmatchable, local_name, nth_child, nth_of_type, id_is, has_class, exists, compares, id_name, class_name, ignores_case, tag_holds, attribute_holds, opposite}
 use Rattle.operators.specs.Standard.{Equal, Prefix, Suffix, Substring, Dash, Part, Includes}
-use Rattle.rules.specs.Standard.{TypeSelector, HasAttribute, First, WithValue, IdSelector, ClassSelector}
+use Rattle.rules.specs.Standard.{TypeSelector, HasAttribute, WithValue, IdSelector, ClassSelector}
 use Rattle.rules.specs.Departures.{CaseIgnored, AnyCase}
 use Rattle.operators.specs.declared.Operator.{Operator}
 
@@ -60,15 +60,10 @@ lowered-same name child of_type (nth_of_type step offset) = refl
 -- a value passes exactly when it is the first one's and the operator holds for it
 value-law : (operator : Operator) (f : Bool) (operand name : List ℕ) (attributes : List Attribute)
     → T (value_holds operator f operand (lookup (fold true name) attributes)) ↔ WithValue true name (λ value. T (operator_holds operator f value operand)) attributes
-unfolding value_holds WithValue
-value-law operator f operand name attributes = (to (lookup (fold true name) attributes) refl, from)
-  where
-    to : (o : Option (List ℕ)) → lookup (fold true name) attributes ≡ o → T (value_holds operator f operand o) → (value : List ℕ) × (First true name value attributes × T (operator_holds operator f value operand))
-    to none e t = absurd t
-    to (some value) e t = (value, ((lookup-law name attributes value).0 e, t))
-
-    from : ((value : List ℕ) × (First true name value attributes × T (operator_holds operator f value operand))) → T (value_holds operator f operand (lookup (fold true name) attributes))
-    from (value, (p, t)) = subst (λ (o : Option (List ℕ)). T (value_holds operator f operand o)) (sym ((lookup-law name attributes value).1 p)) t
+unfolding WithValue
+value-law operator f operand name attributes =
+    Iff.trans (lowered.value-law operator f operand (fold true name) attributes)
+    (λ (value, (p, t)). (value, ((lowered-first name value attributes).0 p, t)), λ (value, (p, t)). (value, ((lowered-first name value attributes).1 p, t)))
 
 by-value : {P Q : List ℕ → Type 0} (name : List ℕ) (attributes : List Attribute) → ((value : List ℕ) → P value ↔ Q value) → WithValue true name P attributes ↔ WithValue true name Q attributes
 unfolding WithValue

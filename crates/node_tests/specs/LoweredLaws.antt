@@ -18,7 +18,7 @@ use Rattle.operators.specs.declared.Operator.{Operator}
 use Rattle.node_tests.specs.Tests.{id_is, has_class, exists, compares, id_name, class_name, ignores_case, attribute_holds}
 
 -- a value passes exactly when it is the first one's and the operator holds for it
-value-law : (operator : Operator) (f : Bool) (operand wanted : List ℕ) (attributes : List Attribute)
+pub value-law : (operator : Operator) (f : Bool) (operand wanted : List ℕ) (attributes : List Attribute)
     → T (value_holds operator f operand (lookup wanted attributes)) ↔ ((value : List ℕ) × (FirstLowered wanted value attributes × T (operator_holds operator f value operand)))
 unfolding value_holds
 value-law operator f operand wanted attributes = (to (lookup wanted attributes) refl, from)

@@ -1,4 +1,5 @@
 -- What a lookup finds: the first attribute of the name, or that there is none (01, section 3); and where that leaves W3C (E11).
+use Rattle.std.proofs.Math.Logic.Iff
 use Rattle.std.proofs.Math.Path.{◌≡◌, refl, ap}
 use Rattle.std.specs.Prelude.{◌↔◌, ◌⊎◌, Bool, ℕ}
 use Rattle.std.proofs.Common.{sym, ◌∙◌, inl, inr, ⊎_elim, arith}
@@ -36,40 +37,14 @@ module _ (wanted : List ℕ) where
         (λ (x, (m, e)). ih.1 (⊎_elim (λ q. absurd (not_named a s (rw q at e))) (λ n. (x, (n, e))) (Memᴰ.cases_cons m))),
       )
 
-module _ (name : List ℕ) where
-  to-first : (attributes : List Attribute) (value : List ℕ) → lookup (fold true name) attributes ≡ some value → First true name value attributes
-  unfolding lookup
-  to-first [] value e = let q : ◌≡◌ {A = ℕ} 0 1 = cc in absurd (omega arith)
-  to-first (a ∷ more) value e = go (same_bytes true false a.name (fold true name)) refl e (to-first more value)
-    where
-      go : (b : Bool) → same_bytes true false a.name (fold true name) ≡ b → cond b (some a.value) (lookup (fold true name) more) ≡ some value → (lookup (fold true name) more ≡ some value → First true name value more) → First true name value (a ∷ more)
-      go true s e ih = First.here {a = a} (named (fold true name) a s) (cc)
-      go false s e ih = First.later (not_named (fold true name) a s) (ih e)
-
-  from_first : (attributes : List Attribute) (value : List ℕ) → First true name value attributes → lookup (fold true name) attributes ≡ some value
-  unfolding lookup
-  from_first [] value f = elim f [ ]
-  from_first (a ∷ more) value f = go (same_bytes true false a.name (fold true name)) refl f (from_first more value)
-    where
-      go : (b : Bool) → same_bytes true false a.name (fold true name) ≡ b → First true name value (a ∷ more) → (First true name value more → lookup (fold true name) more ≡ some value) → cond b (some a.value) (lookup (fold true name) more) ≡ some value
-      go true s (First.here n v) ih = ap some v
-      go true s (First.later n f) ih = absurd (n (named (fold true name) a s))
-      go false s (First.here n v) ih = absurd (not_named (fold true name) a s n)
-      go false s (First.later n f) ih = ih f
-
-  -- A lookup gives a value exactly when it is the first one's.
-  pub lookup-law : (attributes : List Attribute) (value : List ℕ) → (lookup (fold true name) attributes ≡ some value) ↔ First true name value attributes
-  lookup-law attributes value = (to-first attributes value, from_first attributes value)
-
-module _ (wanted : List ℕ) where
   to-lowered : (attributes : List Attribute) (value : List ℕ) → lookup wanted attributes ≡ some value → FirstLowered wanted value attributes
   unfolding lookup
   to-lowered [] value e = let q : ◌≡◌ {A = ℕ} 0 1 = cc in absurd (omega arith)
   to-lowered (a ∷ more) value e = go (same_bytes true false a.name wanted) refl e (to-lowered more value)
     where
       go : (b : Bool) → same_bytes true false a.name wanted ≡ b → cond b (some a.value) (lookup wanted more) ≡ some value → (lookup wanted more ≡ some value → FirstLowered wanted value more) → FirstLowered wanted value (a ∷ more)
-      go true s e ih = FirstLowered.here {a = a} (named wanted a s) (cc)
-      go false s e ih = FirstLowered.later (not_named wanted a s) (ih e)
+      go true s e ih = FirstLowered.here {a = a} (named a s) (cc)
+      go false s e ih = FirstLowered.later (not_named a s) (ih e)
 
   from-lowered : (attributes : List Attribute) (value : List ℕ) → FirstLowered wanted value attributes → lookup wanted attributes ≡ some value
   unfolding lookup
@@ -78,13 +53,31 @@ module _ (wanted : List ℕ) where
     where
       go : (b : Bool) → same_bytes true false a.name wanted ≡ b → FirstLowered wanted value (a ∷ more) → (FirstLowered wanted value more → lookup wanted more ≡ some value) → cond b (some a.value) (lookup wanted more) ≡ some value
       go true s (FirstLowered.here n v) ih = ap some v
-      go true s (FirstLowered.later n f) ih = absurd (n (named wanted a s))
-      go false s (FirstLowered.here n v) ih = absurd (not_named wanted a s n)
+      go true s (FirstLowered.later n f) ih = absurd (n (named a s))
+      go false s (FirstLowered.here n v) ih = absurd (not_named a s n)
       go false s (FirstLowered.later n f) ih = ih f
 
-  -- The same of a wanted name as it stands, lower-cased or not.
+  -- A lookup gives a value exactly when it is the first one's.
   pub lookup-lowered : (attributes : List Attribute) (value : List ℕ) → (lookup wanted attributes ≡ some value) ↔ FirstLowered wanted value attributes
   lookup-lowered attributes value = (to-lowered attributes value, from-lowered attributes value)
+
+module _ (name value : List ℕ) where
+  -- Of a lower-cased name that is W3C's first of HTML.
+  pub lowered-first : (attributes : List Attribute) → FirstLowered (fold true name) value attributes ↔ First true name value attributes
+  lowered-first [] = (λ f. elim f [ ], λ f. elim f [ ])
+  lowered-first (a ∷ more) = (to (lowered-first more).0, from (lowered-first more).1)
+    where
+      to : (FirstLowered (fold true name) value more → First true name value more) → FirstLowered (fold true name) value (a ∷ more) → First true name value (a ∷ more)
+      to go (FirstLowered.here n v) = First.here n v
+      to go (FirstLowered.later n f) = First.later n (go f)
+
+      from : (First true name value more → FirstLowered (fold true name) value more) → First true name value (a ∷ more) → FirstLowered (fold true name) value (a ∷ more)
+      from go (First.here n v) = FirstLowered.here n v
+      from go (First.later n f) = FirstLowered.later n (go f)
+
+-- The same in W3C's words.
+pub lookup-law : (name : List ℕ) (attributes : List Attribute) (value : List ℕ) → (lookup (fold true name) attributes ≡ some value) ↔ First true name value attributes
+lookup-law name attributes value = Iff.trans (lookup-lowered (fold true name) attributes value) (lowered-first name value attributes)
 
 -- ---- E11
 
