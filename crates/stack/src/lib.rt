@@ -3,6 +3,7 @@
 
 pub mod blocks;
 pub mod copies;
+pub mod machine;
 
 // The layout of specs/Stores.antt. Words of the header:
 pub const OPENS: usize = 0;
