@@ -1,5 +1,6 @@
-use mathlib.Core.Path.{refl, sym, ◌∙◌}
-use native.Mathlib.Omega.{arith}
+use Rattle.std.proofs.Common.{sym, ◌∙◌, arith, rules, length}
+use Rattle.std.proofs.lemmas.List.{length_push}
+use Rattle.std.proofs.lemmas.Slice.Zip.{zip_turn, zip_end}
 use borrow.Author.Tests.{eq-eqb, ne_eqb}
 use Rattle.letters.specs.BytesLaws.{same-long, same_step, same_end}
 use Rattle.letters.proofs.same.Goals as goal
@@ -7,18 +8,22 @@ use Rattle.letters.proofs.same.Goals as goal
 pub returns-then-a-b : goal.returns-then-a-b
 returns-then-a-b c = sym (same-long _ _ _ _ c.if-a-b.true)
 
-pub loop-i-init : goal.loop-i-init
-loop-i-init c = (omega arith, (c.if-a-b.false, refl))
-
 pub returns-then-fold_byte : goal.returns-then-fold_byte
-returns-then-fold_byte c = let e1 = c.fold_byte.ensures in
-    let e2 = c.fold_byte-in-loop-i.ensures in
-    sym (c.loop-i.invariant.1.1 ∙ same_step _ _ _ _ c.loop-i.i (omega arith) (omega arith) ∙ rw (ne_eqb _ _ (λ e. c.if-fold_byte.true (e1 ∙ e ∙ sym e2))))
+returns-then-fold_byte c =
+    let t = zip_turn c.args.a.now c.args.b.now c.loop-x.yielded _ _ c.next.new.self _ (search rules) (search rules) c.loop-x.yielded_by _ c.in-Some.is c.next.ensures.steps in
+    let e = rw (t.2 0) at c.fold_byte.ensures in
+    let d = rw (t.3 0) at c.fold_byte-in-loop-x.ensures in
+    sym (c.loop-x.invariant.1 ∙ same_step c.args.f c.args.g _ _ (length c.loop-x.yielded) t.0 t.1 ∙ rw (ne_eqb _ _ (λ q. c.if-fold_byte.true (e ∙ q ∙ sym d))))
 
-pub loop-i-preserved : goal.loop-i-preserved
-loop-i-preserved c = let e1 = c.fold_byte.ensures in
-    let e2 = c.fold_byte-in-loop-i.ensures in
-    (omega arith, (c.loop-i.invariant.1.0, c.loop-i.invariant.1.1 ∙ same_step _ _ _ _ c.loop-i.i (omega arith) (omega arith) ∙ rw (eq-eqb _ _ (sym e1 ∙ c.if-fold_byte.false ∙ e2))))
+pub loop-x-preserved : goal.loop-x-preserved
+loop-x-preserved c =
+    let t = zip_turn c.args.a.now c.args.b.now c.loop-x.yielded _ _ c.next.new.self _ (search rules) (search rules) c.loop-x.yielded_by _ c.in-Some.is c.next.ensures.steps in
+    let e = rw (t.2 0) at c.fold_byte.ensures in
+    let d = rw (t.3 0) at c.fold_byte-in-loop-x.ensures in
+    (c.loop-x.invariant.0, rw length_push (c.loop-x.invariant.1 ∙ same_step c.args.f c.args.g _ _ (length c.loop-x.yielded) t.0 t.1 ∙ rw (eq-eqb _ _ (sym e ∙ c.if-fold_byte.false ∙ d))))
 
 pub returns : goal.returns
-returns c = sym (c.loop-i.invariant.1.1 ∙ same_end _ _ _ _ c.loop-i.i (omega arith) (omega arith))
+returns c =
+    let t = zip_end c.args.a.now c.args.b.now c.loop-x.yielded _ _ c.next.new.self _ (search rules) (search rules) c.loop-x.yielded_by c.in-None.is c.next.ensures.steps in
+    let e = c.loop-x.invariant.0 in
+    sym (c.loop-x.invariant.1 ∙ same_end _ _ _ _ (length c.loop-x.yielded) (omega arith) (omega arith))

@@ -1,13 +1,11 @@
-use mathlib.Core.Path.{refl, ◌∙◌}
-use native.Mathlib.Omega.{arith}
-use Rattle.names.proofs.Table.{key_more, key-end, key-is}
+use Rattle.std.proofs.Common.{arith, ◌∙◌}
+use Rattle.names.specs.Names.{name_key}
+use Rattle.names.proofs.Turns.{key_more, key-end}
 use Rattle.names.proofs.name_key.Goals as goal
 
-pub loop-i-init : goal.loop-i-init
-loop-i-init c = (omega arith, (omega arith, refl))
-
-pub loop-i-preserved : goal.loop-i-preserved
-loop-i-preserved c = (omega arith, (omega arith, c.loop-i.invariant.1.1 ∙ key_more _ c.loop-i.hash c.loop-i.i _ c.loop-i-test.true c.lower.ensures))
+pub loop-b-preserved : goal.loop-b-preserved
+loop-b-preserved c = (omega arith, c.loop-b.invariant.1 ∙ key_more _ c.loop-b.hash c.loop-b.b-index _ c.loop-b-test.true (c.from.ensures ∙ c.lower.ensures))
 
 pub returns : goal.returns
-returns c = key-is _ _ (c.loop-i.invariant.1.1 ∙ key-end _ _ _ c.loop-i-test.false)
+unfolding name_key
+returns c = rw (c.loop-b.invariant.1 ∙ key-end _ c.loop-b.hash _ c.loop-b-test.false)
