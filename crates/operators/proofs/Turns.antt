@@ -1,11 +1,13 @@
 -- What each early answer, and each turn of a loop, comes to in the definitions of `specs/Operators.antt`.
-use mathlib.Core.Path.{◌≡◌, refl, sym}
+use mathlib.Core.Path.{◌≡◌, refl, ◌∙◌}
 use mathlib.Core.Bool.{Bool, true, false, ◌||◌, or-false}
 use mathlib.Core.List.{List, [], ◌∷◌, ◌++◌}
 use Prim.Native.Nat.{ℕ, suc, ◌+◌, ◌-◌, ◌<◌, ◌≤◌}
 use native.Mathlib.Nat.{sub_self, le_refl}
 use native.Mathlib.Numerals.{add-one}
 use native.Mathlib.Omega.{arith}
+use borrow.Author.Tests.{eqb-false}
+use lib.Dec.{eqb, eqb-suc-zero}
 use lib.ListN.{length, get_or, take, drop, drop_of_length-le, length-drop}
 use lib.Seq.{drop-cons, take_all, take-nil, take-suc, get_or-drop}
 use Rattle.cells.specs.Numbers.{part}
@@ -13,15 +15,10 @@ use Rattle.letters.specs.Bytes.{same_bytes, space_byte}
 use Rattle.letters.specs.BytesLaws.{same-long}
 use Rattle.operators.specs.Operators.{empty_bytes, begins_with, contains_bytes, parts, some_part}
 
-pub empty-yes : (v : List ℕ) → length v ≡ 0 → empty_bytes v ≡ true
+pub empty-is : (v : List ℕ) → eqb (length v) 0 ≡ empty_bytes v
 unfolding empty_bytes
-empty-yes [] e = refl
-empty-yes (x ∷ xs) e = absurd (omega arith)
-
-pub empty-no : (v : List ℕ) → (length v ≡ 0 → ⊥) → empty_bytes v ≡ false
-unfolding empty_bytes
-empty-no [] n = absurd (n refl)
-empty-no (x ∷ xs) n = refl
+empty-is [] = refl
+empty-is (x ∷ xs) = eqb-suc-zero (length xs)
 
 -- a value shorter than the operand does not end with it
 pub ends-short : (f : Bool) (v o : List ℕ) → length v < length o → same_bytes f f (drop (length v - length o) v) o ≡ false
@@ -31,15 +28,17 @@ ends-short f v o h = same-long f f _ o (λ e. omega (arith, length-drop (length 
 pub rest-is : (v : List ℕ) (a : ℕ) → take (length v - a) (drop a v) ≡ drop a v
 rest-is v a = take_all (length v - a) (drop a v) (omega (arith, length-drop a v))
 
+pub ruleset suffixes = (empty-is, ends-short, rest-is)
+
 module _ (f : Bool) (v o : List ℕ) where
   -- a turn of the loop of `substring`: the rest begins with the operand, or the next rest may have it
   pub contains-step : (i : ℕ) (begun b : Bool) → i < length v → begun ≡ begins_with f (take (length v - i) (drop i v)) o → begun ≡ b → contains_bytes f (drop i v) o ≡ (b || contains_bytes f (drop (i + 1) v) o)
   unfolding contains_bytes
   contains-step i begun b h e q = rw (← q, e, rest-is v i, add-one, drop-cons v i 0 h)
 
-  pub contains-end : (i : ℕ) → length v ≤ i → (length o ≡ 0 → ⊥) → contains_bytes f (drop i v) o ≡ false
-  unfolding contains_bytes begins_with
-  contains-end i h n = rw (drop_of_length-le v h, take-nil (length o)) (same-long f f [] o (λ e. n (sym e)))
+  pub contains-end : (i : ℕ) → length v ≤ i → empty_bytes o ≡ false → contains_bytes f (drop i v) o ≡ false
+  unfolding contains_bytes begins_with empty_bytes
+  contains-end i h n = rw (drop_of_length-le v h, take-nil (length o)) (same-long f f [] o (λ e. omega (arith, eqb-false (length o) 0 (empty-is o ∙ n))))
 
 part-more : (v : List ℕ) (s i : ℕ) → s ≤ i → i < length v → part v s i ++ (get_or v i 0 ∷ []) ≡ part v s (i + 1)
 part-more v s i h k =
