@@ -10,12 +10,10 @@ pub fn put_text(out: &mut [u8], at: usize, text: &[u8]) -> usize
     requires { (at ≤ 8589934592) × (length text.now ≤ 65536) }
     ensures { Wrote out.old at text.now result out.new }
 {
-    let mut i = 0;
-    while i < text.len() {
-        put8(out, at + i, text[i]);
-        i += 1;
+    for (i, b) in text.iter().enumerate() {
+        put8(out, at + i, *b);
     }
-    at + i
+    at + text.len()
 }
 
 // The last k digits of n, no zeros in front.
