@@ -21,15 +21,10 @@ pub fn fold_byte(b: u8, ignore: bool) -> u8
 pub fn same(a: &[u8], f: bool, b: &[u8], g: bool) -> bool
     ensures { result ≡ same_bytes f g a.now b.now }
 {
-    if a.len() != b.len() {
-        return false;
-    }
-    for (x, y) in a.iter().zip(b) {
-        if fold_byte(*x, f) != fold_byte(*y, g) {
-            return false;
-        }
-    }
-    true
+    a.len() == b.len()
+        && a.iter()
+            .zip(b)
+            .all(|(x, y)| fold_byte(*x, f) == fold_byte(*y, g))
 }
 
 // Space, LF, CR, tab, form feed.

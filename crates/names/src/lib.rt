@@ -41,12 +41,7 @@ const ESI_NAMES: [&[u8]; 2] = [b"esi:include", b"esi:comment"];
 fn among(ignore: bool, name: &[u8], names: &[&[u8]]) -> bool
     ensures { result ≡ among_names ignore name.now (map (λ n. n.now) names.now) }
 {
-    for n in names {
-        if same(name, ignore, n, false) {
-            return true;
-        }
-    }
-    false
+    names.iter().any(|n| same(name, ignore, n, false))
 }
 
 // Whether a name is one of the 17, in any case of its letters.

@@ -73,16 +73,9 @@ pub fn has_attr_with_substring(value: &[u8], operand: &[u8], f: bool) -> bool
 pub fn matches_splitted_by_whitespace(value: &[u8], operand: &[u8], f: bool) -> bool
     ensures { result ≡ includes_holds f value.now operand.now }
 {
-    let mut start = 0;
-    for (i, b) in value.iter().enumerate() {
-        if is_attr_whitespace(*b) {
-            if same(&value[start..i], f, operand, f) {
-                return true;
-            }
-            start = i + 1;
-        }
-    }
-    same(&value[start..], f, operand, f)
+    value
+        .split(|b| is_attr_whitespace(*b))
+        .any(|part| same(part, f, operand, f))
 }
 
 // A value against an operand.

@@ -1,12 +1,11 @@
-use Rattle.std.proofs.Common.{◌∙◌, sym, true, false}
-use Rattle.names.proofs.Turns.{among-more, among-end}
+use Rattle.std.proofs.Common.{rules, tests, ◌∙◌, false}
+use Rattle.std.proofs.lemmas.Iterator.{YieldsList-from_slice}
+use Rattle.std.proofs.lemmas.Iterator.Search.{any_from_yields_List}
+use Rattle.letters.specs.Bytes.{same_bytes}
+use Rattle.names.proofs.Turns.{among-any}
 use Rattle.names.proofs.among.Goals as goal
 
-pub returns-then-same : goal.returns-then-same
-returns-then-same c = sym (c.loop-n.invariant ∙ among-more _ _ _ c.loop-n.n-index _ _ true c.loop-n-test.true c.same.ensures c.if-same.true)
-
-pub loop-n-preserved : goal.loop-n-preserved
-loop-n-preserved c = c.loop-n.invariant ∙ among-more _ _ _ c.loop-n.n-index _ _ false c.loop-n-test.true c.same.ensures c.if-same.false
-
 pub returns : goal.returns
-returns c = sym (c.loop-n.invariant ∙ among-end _ _ _ c.loop-n.n-index c.loop-n-test.false)
+returns c =
+    any_from_yields_List (λ n. same_bytes c.args.ignore false c.args.name.now n.now) c.any.new.self _ c.any.result c.any.ensures.ran
+    (YieldsList-from_slice c.args.names.now cc) (λ x b q k. search (rules, tests)) ∙ among-any c.args.ignore c.args.name.now c.args.names.now
