@@ -69,9 +69,9 @@ pub fn is_void(name: &[u8], esi: bool) -> bool
 pub fn name_key(name: &[u8]) -> u32
     ensures { result ≡ name_key name.now }
 {
-    let mut hash: u64 = 0;
-    for b in name {
-        hash = (hash * 31 + u64::from(lower(*b))) % 4294967296;
-    }
-    (hash % 2147483648 + 1) as u32
+    let hash = name.iter().fold(
+        0u32,
+        |hash, b| hash.wrapping_mul(31).wrapping_add(u32::from(lower(*b))),
+    );
+    hash % 2147483648 + 1
 }

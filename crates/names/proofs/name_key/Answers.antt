@@ -1,11 +1,13 @@
-use Rattle.std.proofs.Common.{arith, ◌∙◌}
+use Rattle.std.proofs.Common.{rules, tests, ◌+◌, ◌*◌, ◌%◌, ◌^◌, ◌∙◌}
+use Rattle.std.proofs.lemmas.Iterator.{YieldsList-from_slice}
+use Rattle.std.proofs.lemmas.Iterator.Consumers.{fold_from_yields_List}
+use Rattle.letters.specs.Bytes.{lower_of}
 use Rattle.names.specs.Names.{name_key}
-use Rattle.names.proofs.Turns.{key_more, key-end}
+use Rattle.names.proofs.Turns.{hash-fold}
 use Rattle.names.proofs.name_key.Goals as goal
-
-pub loop-b-preserved : goal.loop-b-preserved
-loop-b-preserved c = (omega arith, c.loop-b.invariant.1 ∙ key_more _ c.loop-b.hash c.loop-b.b-index _ c.loop-b-test.true (c.from.ensures ∙ c.lower.ensures))
 
 pub returns : goal.returns
 unfolding name_key
-returns c = rw (c.loop-b.invariant.1 ∙ key-end _ c.loop-b.hash _ c.loop-b-test.false)
+returns c =
+    let e = fold_from_yields_List _ (λ h b. (h * 31 % 2 ^ 32 + lower_of b) % 2 ^ 32) 0 c.fold-hash.result c.fold-hash.ensures.ran (YieldsList-from_slice c.args.name.now cc) (λ a x b q k. search (rules, tests)) in
+    rw (e ∙ hash-fold 0 c.args.name.now)
