@@ -25,11 +25,11 @@ fn put_digits(out: &mut [u8], at: usize, k: usize, n: u64) -> usize
         return at;
     }
     if n < 10 {
-        put8(out, at, 48 + (n % 10) as u8);
+        put8(out, at, b'0' + (n % 10) as u8);
         return at + 1;
     }
     let next = put_digits(out, at, k - 1, n / 10);
-    put8(out, next, 48 + (n % 10) as u8);
+    put8(out, next, b'0' + (n % 10) as u8);
     next + 1
 }
 
