@@ -2,7 +2,7 @@
 use mathlib.Core.Path.{◌≡◌, refl, sym, ap, ◌∙◌}
 use mathlib.Core.Bool.{Bool, true, false, cond}
 use mathlib.Core.List.{List, [], ◌∷◌, ◌++◌, append-nil, append_assoc}
-use Prim.Native.Nat.{ℕ, zero, suc, ◌+◌, ◌-◌, ◌*◌, ◌/◌, ◌%◌, ◌^◌, ◌<◌, ◌≤◌}
+use Prim.Native.Nat.{ℕ, zero, suc, ◌+◌, ◌-◌, ◌*◌, ◌/◌, ◌%◌, ◌^◌, ◌<◌, ◌≤◌, min}
 use native.Mathlib.Nat.{lt_of_lt_of_le, lt_of_le_of_lt, one-mul, zero-div, add-zero, zero-add, suc-add, add_assoc, div-one, div-eq_of_lt, div-div-eq-div-mul, pow-suc, pow-succ'}
 use native.Mathlib.Numerals.{add-one}
 use native.Mathlib.Omega.{arith}
@@ -13,9 +13,9 @@ use lib.Dec.{eqb, ltb}
 use lib.ListN.{length, get_or, take, drop, set, length-append, drop_of_length-le, take-append-drop}
 use lib.Pow.{pow_mono, shl_exact, shr_le, shr-shr}
 use lib.Seq.{drop-cons, drop-set-lt, take-suc-set, take_all}
-use Rattle.id_sets.specs.Ids.{bit, has_id, ids_from, first_of, with_id, union}
+use Rattle.id_sets.specs.Ids.{bit, has_id, ids_from, ids_of, first_of, with_id, union}
 use Rattle.id_sets.specs.IdLaws.{member-inside}
-use Rattle.id_sets.specs.declared.Next.{Next}
+use Rattle.std.specs.Prelude.{None, Some}
 
 -- ---- lists of members
 
@@ -136,7 +136,7 @@ module _ (words : List ℕ) (k passed : ℕ) where
     next_small p = inside-word (count_trailing_zeros 64 bits) (first p).set_bit
 
     module _ (n : ℕ) (inside : (k + 1) * 64 ≤ n) where
-      pub next-found : 0 < bits → Next.Id (here + count_trailing_zeros 64 bits) ≡ first_of (ids_from words here (n - here))
+      pub next-found : 0 < bits → Some (here + count_trailing_zeros 64 bits) ≡ first_of (ids_from words here (n - here))
       unfolding ids_from first_of
       next-found p =
           let t = count_trailing_zeros 64 bits in
@@ -158,19 +158,31 @@ module _ (words : List ℕ) (k passed : ℕ) where
 pub ids-past : (words : List ℕ) (id n : ℕ) → length words * 64 ≤ id → ids_from words id n ≡ []
 ids-past words id n h = ids-none words id n (λ j g. member-inside words (id + j) (omega arith))
 
-pub next_past : (words : List ℕ) (id n : ℕ) → length words * 64 ≤ id → Next.Nothing ≡ first_of (ids_from words id n)
-unfolding first_of
-next_past words id n h = rw (ids-past words id n h)
-
-pub next-none : (words : List ℕ) (id n : ℕ) → n ≤ id → Next.Nothing ≡ first_of (ids_from words id (n - id))
+-- where the loop ends, past the words or past id 65,535
+pub next-end : (words : List ℕ) (k passed : ℕ) → min (length words) 1024 ≤ k → None ≡ first_of (ids_from words (k * 64 + passed) (65536 - (k * 64 + passed)))
 unfolding ids_from first_of
-next-none words id n h = let e : n - id ≡ 0 = omega arith in rw e
+next-end words k passed h = go (ltb k 1024) refl
+  where
+    id : ℕ
+    id = k * 64 + passed
 
-pub count_past : (words : List ℕ) (k n : ℕ) → length words ≤ k → k * 64 ≤ n → length (ids_from words 0 (k * 64)) ≡ length (ids_from words 0 n)
+    go : (b : Bool) → ltb k 1024 ≡ b → None ≡ first_of (ids_from words id (65536 - id))
+    go true e = let l = ltb-true k 1024 e in rw (ids-past words id (65536 - id) (omega arith))
+    go false e = let l = ltb-false k 1024 e in let z : 65536 - id ≡ 0 = omega arith in rw z
+
+count_past : (words : List ℕ) (k n : ℕ) → length words ≤ k → k * 64 ≤ n → length (ids_from words 0 (k * 64)) ≡ length (ids_from words 0 n)
 count_past words k n h g =
     let e : n ≡ k * 64 + (n - k * 64) = omega arith in
     let s : ids_from words 0 n ≡ ids_from words 0 (k * 64) ++ ids_from words (0 + k * 64) (n - k * 64) = ap (ids_from words 0) e ∙ ids-split words 0 (k * 64) (n - k * 64) in
     rw (s, ids-past words (0 + k * 64) (n - k * 64) (omega arith), append-nil (ids_from words 0 (k * 64)))
+
+pub count-end : (words : List ℕ) (k : ℕ) → k ≡ min (length words) 1024 → length (ids_from words 0 (k * 64)) ≡ length (ids_of words)
+unfolding ids_of
+count-end words k e = go (ltb (length words) 1024) refl
+  where
+    go : (b : Bool) → ltb (length words) 1024 ≡ b → length (ids_from words 0 (k * 64)) ≡ length (ids_from words 0 65536)
+    go true q = let l = ltb-true (length words) 1024 q in count_past words k 65536 (omega arith) (omega arith)
+    go false q = let l = ltb-false (length words) 1024 q in let z : k ≡ 1024 = omega arith in rw z
 
 -- ---- one id more, and unions
 

@@ -1,7 +1,6 @@
 -- Sets of ids as words of 64 bits, any number of them (01, section 4: id i is bit i % 64 of word i / 64).
-use Rattle.std.specs.Prelude.{Bool, cond, List, [], ◌∷◌, ℕ, zero, suc, ◌+◌, ◌/◌, ◌%◌, ◌^◌, eqb, get_or, set}
+use Rattle.std.specs.Prelude.{Bool, cond, List, [], ◌∷◌, ℕ, zero, suc, ◌+◌, ◌/◌, ◌%◌, ◌^◌, Option, None, Some, eqb, get_or, set}
 use Rattle.std.specs.Int.Bits.{bit_or}
-use Rattle.id_sets.specs.declared.Next.{Next}
 
 -- Bit i of a word.
 abbrev pub bit : ℕ → ℕ → ℕ
@@ -21,9 +20,9 @@ unfoldable pub ids_of : List ℕ → List ℕ
 ids_of words = ids_from words 0 65536
 
 -- The first of a list, if there is one.
-unfoldable pub first_of : List ℕ → Next
-first_of [] = Next.Nothing
-first_of (id ∷ ids) = Next.Id id
+unfoldable pub first_of : List ℕ → Option ℕ
+first_of [] = None
+first_of (id ∷ ids) = Some id
 
 -- The set with one id more.
 unfoldable pub with_id : List ℕ → ℕ → List ℕ

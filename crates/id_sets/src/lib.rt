@@ -6,12 +6,6 @@ ghost use Rattle.id_sets.specs.Ids.{has_id, ids_from, ids_of, first_of, with_id,
 
 use cells::{get64, put64};
 
-#[derive(Clone, Copy)]
-pub enum Next {
-    Id(usize),
-    Nothing,
-}
-
 pub fn has_id(words: &[u64], id: usize) -> bool
     ensures { result ≡ has_id words.now id }
 {
@@ -31,47 +25,35 @@ pub fn add_id(words: &mut [u64], id: usize)
 pub fn unite(words: &mut [u64], more: &[u64])
     ensures { words.new ≡ union words.old more.now }
 {
-    let mut i = 0;
-    while i < words.len() {
-        if more.len() <= i {
+    for (i, word) in words.iter_mut().enumerate() {
+        let Some(other) = more.get(i) else {
             return;
-        }
-        words[i] = words[i] | more[i];
-        i += 1;
+        };
+        *word |= *other;
     }
 }
 
 // The first member from `from` on: in each word, by the zeros below its lowest bit.
-pub fn next_id(words: &[u64], from: usize) -> Next
+pub fn next_id(words: &[u64], from: usize) -> Option<usize>
     ensures { result ≡ first_of (ids_from words.now from (65536 - from)) }
 {
-    let mut i = from / 64;
     let mut passed = from % 64;
-    while i < 1024 {
-        if words.len() <= i {
-            return Next::Nothing;
-        }
+    for i in from / 64..words.len().min(1024) {
         let word = words[i] >> passed;
         if word != 0 {
-            return Next::Id(i * 64 + passed + u64::trailing_zeros(word) as usize);
+            return Some(i * 64 + passed + word.trailing_zeros() as usize);
         }
         passed = 0;
-        i += 1;
     }
-    Next::Nothing
+    None
 }
 
 pub fn count_ids(words: &[u64]) -> usize
     ensures { result ≡ length (ids_of words.now) }
 {
     let mut count = 0;
-    let mut i = 0;
-    while i < 1024 {
-        if words.len() <= i {
-            return count;
-        }
-        count += u64::count_ones(words[i]) as usize;
-        i += 1;
+    for word in &words[..words.len().min(1024)] {
+        count += word.count_ones() as usize;
     }
     count
 }

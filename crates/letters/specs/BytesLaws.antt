@@ -1,6 +1,7 @@
 -- `equal_bytes` decides equality of byte strings, `same_bytes` equality under case rules.
 use Rattle.std.specs.Prelude.{◌≡◌, refl, ◌↔◌, ◌⊎◌, Bool, true, false, ◌&&◌, ◌||◌, List, [], ◌∷◌, ℕ, ◌+◌, ◌<◌, ◌≤◌, length, get_or, drop, T, eqb}
-use Rattle.std.proofs.Common.{sym, ap, ◌∙◌, subst, inl, inr, ⊎_elim, add-one, drop_of_length-le, drop-cons, eq-eqb, eqb→eq}
+use Rattle.std.proofs.Common.{arith, sym, ap, ◌∙◌, subst, inl, inr, ⊎_elim, add-one, drop_of_length-le, drop-cons, eq-eqb, eqb→eq}
+use Rattle.std.specs.List.{list_all, zip}
 use Rattle.std.proofs.lemmas.List.{length-map}
 use Rattle.std.proofs.Math.Facts.{and_yes, yes_and}
 use Rattle.letters.specs.Bytes.{fold_byte, equal_bytes, fold, same_bytes}
@@ -65,3 +66,11 @@ same_step f g a b i ha hb = rw (add-one, drop-cons a i 0 ha, drop-cons b i 0 hb)
 pub same_end : (f g : Bool) (a b : List ℕ) (i : ℕ) → length a ≤ i → length b ≤ i → same_bytes f g (drop i a) (drop i b) ≡ true
 unfolding same_bytes
 same_end f g a b i ha hb = rw (drop_of_length-le a ha, drop_of_length-le b hb)
+
+-- two strings of one length, compared pair by pair
+pub same-zip : (f g : Bool) (a b : List ℕ) → length a ≡ length b → list_all (λ p. eqb (fold_byte f p.0) (fold_byte g p.1)) (zip a b) ≡ same_bytes f g a b
+unfolding same_bytes
+same-zip f g [] [] e = refl
+same-zip f g [] (y ∷ b) e = absurd (omega arith)
+same-zip f g (x ∷ a) [] e = absurd (omega arith)
+same-zip f g (x ∷ a) (y ∷ b) e = rw (same-zip f g a b (omega arith))

@@ -8,13 +8,7 @@ ghost use Rattle.letters.specs.Bytes.{lower_of, fold_byte, same_bytes, space_byt
 pub fn lower(b: u8) -> u8
     ensures { result ≡ lower_of b }
 {
-    if b < 65 {
-        return b;
-    }
-    if b <= 90 {
-        return b + 32;
-    }
-    b
+    b.to_ascii_lowercase()
 }
 
 pub fn fold_byte(b: u8, ignore: bool) -> u8
@@ -27,34 +21,15 @@ pub fn fold_byte(b: u8, ignore: bool) -> u8
 pub fn same(a: &[u8], f: bool, b: &[u8], g: bool) -> bool
     ensures { result ≡ same_bytes f g a.now b.now }
 {
-    if a.len() != b.len() {
-        return false;
-    }
-    let mut i = 0;
-    while i < a.len() {
-        if fold_byte(a[i], f) != fold_byte(b[i], g) {
-            return false;
-        }
-        i += 1;
-    }
-    true
+    a.len() == b.len()
+        && a.iter()
+            .zip(b)
+            .all(|(x, y)| fold_byte(*x, f) == fold_byte(*y, g))
 }
 
 // Space, LF, CR, tab, form feed.
 pub fn is_attr_whitespace(b: u8) -> bool
     ensures { result ≡ space_byte b }
 {
-    if b == b' ' {
-        return true;
-    }
-    if b == b'\n' {
-        return true;
-    }
-    if b == b'\r' {
-        return true;
-    }
-    if b == b'\t' {
-        return true;
-    }
-    b == 12
+    matches!(b, b' ' | b'\n' | b'\r' | b'\t' | b'\x0c')
 }

@@ -10,7 +10,7 @@ use lib.ListN.{length, set, length-append}
 use Rattle.id_sets.specs.Ids.{has_id, ids_from, ids_of, first_of}
 use Rattle.id_sets.specs.IdLaws.{member-inside}
 use Rattle.cells.specs.Stretches.{written}
-use Rattle.id_sets.specs.declared.Next.{Next}
+use Rattle.std.specs.Prelude.{None, Some}
 use Rattle.text.specs.Text.{Wrote, decimal}
 use Rattle.text.proofs.Laws.{written-append, then}
 use Rattle.match_lines.specs.MatchLines.{ids_text, match_word, content_word, match_line}
@@ -18,14 +18,14 @@ use Rattle.match_lines.specs.MatchLines.{ids_text, match_word, content_word, mat
 -- ---- ids
 
 -- the first member from a place on, and those after it
-pub first-id : (words : List ℕ) (n from id : ℕ) → Next.Id id ≡ first_of (ids_from words from n)
+pub first-id : (words : List ℕ) (n from id : ℕ) → Some id ≡ first_of (ids_from words from n)
     → (ids_from words from n ≡ id ∷ ids_from words (id + 1) (from + n - (id + 1))) × (from ≤ id) × (id < from + n) × (has_id words id ≡ true)
 unfolding ids_from first_of
 first-id words zero from id e = let z : ◌≡◌ {A = ℕ} 0 1 = cc in absurd (omega arith)
 first-id words (suc n) from id e = go (has_id words from) refl e (first-id words n (from + 1) id)
   where
-    go : (b : Bool) → has_id words from ≡ b → Next.Id id ≡ first_of (cond b (from ∷ ids_from words (from + 1) n) (ids_from words (from + 1) n))
-        → (Next.Id id ≡ first_of (ids_from words (from + 1) n) → (ids_from words (from + 1) n ≡ id ∷ ids_from words (id + 1) (from + 1 + n - (id + 1))) × (from + 1 ≤ id) × (id < from + 1 + n) × (has_id words id ≡ true))
+    go : (b : Bool) → has_id words from ≡ b → Some id ≡ first_of (cond b (from ∷ ids_from words (from + 1) n) (ids_from words (from + 1) n))
+        → (Some id ≡ first_of (ids_from words (from + 1) n) → (ids_from words (from + 1) n ≡ id ∷ ids_from words (id + 1) (from + 1 + n - (id + 1))) × (from + 1 ≤ id) × (id < from + 1 + n) × (has_id words id ≡ true))
         → (cond b (from ∷ ids_from words (from + 1) n) (ids_from words (from + 1) n) ≡ id ∷ ids_from words (id + 1) (from + suc n - (id + 1))) × (from ≤ id) × (id < from + suc n) × (has_id words id ≡ true)
     go true h e ih =
         let q : id ≡ from = cc in
@@ -36,7 +36,7 @@ first-id words (suc n) from id e = go (has_id words from) refl e (first-id words
         let m : from + 1 + n ≡ from + suc n = omega arith in
         (rw m at i.0, omega arith, omega arith, i.3)
 
-no-first : (xs : List ℕ) → Next.Nothing ≡ first_of xs → xs ≡ []
+no-first : (xs : List ℕ) → None ≡ first_of xs → xs ≡ []
 unfolding first_of
 no-first [] e = refl
 no-first (x ∷ xs) e = let z : ◌≡◌ {A = ℕ} 0 1 = cc in absurd (omega arith)
@@ -61,7 +61,7 @@ pub ids-start : (words : List ℕ) → ids_text (ids_of words) ≡ Rest words 0
 unfolding ids_of
 ids-start words = refl
 
-pub ids_more : (o o₁ o₂ words : List ℕ) (at from next id : ℕ) → from ≤ 65536 → Next.Id id ≡ first_of (ids_from words from (65536 - from))
+pub ids_more : (o o₁ o₂ words : List ℕ) (at from next id : ℕ) → from ≤ 65536 → Some id ≡ first_of (ids_from words from (65536 - from))
     → o₁ ≡ set o at 32 → next ≡ at + 1 + length (decimal id) → o₂ ≡ written o₁ (at + 1) (decimal id)
     → (at + length (Rest words from) ≡ next + length (Rest words (id + 1))) × (written o at (Rest words from) ≡ written o₂ next (Rest words (id + 1))) × (from ≤ id) × (id < 65536) × (id < 64 * length words)
 unfolding ids_text written
@@ -72,13 +72,9 @@ ids_more o o₁ o₂ words at from next id h e f g k =
     let i₂ : id < 65536 = rw m at i.2 in
     (rw i₀ (simp length-append (omega arith)), rw (i₀, k, f, g) (sym (written-append (set o at 32) (at + 1) (decimal id) (Rest words (id + 1)))), i.1, i₂, id-inside words id i.3)
 
-pub ids-none : (o words : List ℕ) (at from : ℕ) → Next.Nothing ≡ first_of (ids_from words from (65536 - from)) → (at + length (Rest words from) ≡ at) × (written o at (Rest words from) ≡ o)
+pub ids-none : (o words : List ℕ) (at from : ℕ) → None ≡ first_of (ids_from words from (65536 - from)) → (at + length (Rest words from) ≡ at) × (written o at (Rest words from) ≡ o)
 unfolding ids_text written
 ids-none o words at from e = rw (no-first _ e) (omega arith, refl)
-
-pub ids-past : (o words : List ℕ) (at from : ℕ) → 65536 ≤ from → (at + length (Rest words from) ≡ at) × (written o at (Rest words from) ≡ o)
-unfolding ids_text ids_from written
-ids-past o words at from h = let m : 65536 - from ≡ 0 = omega arith in rw m (omega arith, refl)
 
 -- ---- a match's line
 

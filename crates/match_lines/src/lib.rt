@@ -7,7 +7,7 @@ ghost use Rattle.text.specs.Text.{Wrote};
 ghost use Rattle.match_lines.specs.MatchLines.{ids_text, match_line};
 
 use cells::put8;
-use id_sets::{Next, next_id};
+use id_sets::next_id;
 use text::{put_decimal, put_text};
 
 // Each id of the set after a space, in rising order.
@@ -18,12 +18,8 @@ pub fn put_ids(out: &mut [u8], at: usize, words: &[u64]) -> usize
 {
     let mut next = at;
     let mut from = 0;
-    while from < 65536 {
-        let found = next_id(words, from);
-        let Next::Id(id) = found else {
-            return next;
-        };
-        put8(out, next, 32);
+    while let Some(id) = next_id(words, from) {
+        put8(out, next, b' ');
         next = put_decimal(out, next + 1, id as u64);
         from = id + 1;
     }
@@ -38,8 +34,6 @@ pub fn put_match(out: &mut [u8], at: usize, words: &[u64], content: bool) -> usi
 {
     let mut next = put_text(out, at, b"match");
     next = put_ids(out, next, words);
-    if content {
-        return put_text(out, next, b" content\n");
-    }
-    put_text(out, next, b" void\n")
+    let end: &[u8] = if content { b" content\n" } else { b" void\n" };
+    put_text(out, next, end)
 }

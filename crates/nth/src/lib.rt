@@ -13,11 +13,5 @@ pub fn nth(step: i32, offset: i32, index: u32) -> bool
     if s == 0 {
         return d == 0;
     }
-    if d % s != 0 {
-        return false;
-    }
-    if s < 0 {
-        return d <= 0;
-    }
-    d >= 0
+    d % s == 0 && if s < 0 { d <= 0 } else { d >= 0 }
 }

@@ -18,6 +18,7 @@ pub enum Operator {
 }
 
 // Whether `value` begins with `operand`.
+#[tactic(auto, unfolding(crate::specs::Operators::begins_with))]
 pub fn begins(value: &[u8], operand: &[u8], f: bool) -> bool
     ensures { result ≡ begins_with f value.now operand.now }
 {
@@ -25,23 +26,19 @@ pub fn begins(value: &[u8], operand: &[u8], f: bool) -> bool
 }
 
 // [att^=val]
+#[tactic(auto, unfolding(crate::specs::Operators::prefix_holds))]
 pub fn has_attr_with_prefix(value: &[u8], operand: &[u8], f: bool) -> bool
     ensures { result ≡ prefix_holds f value.now operand.now }
 {
-    if value.len() == 0 {
-        return false;
-    }
-    begins(value, operand, f)
+    !value.is_empty() && begins(value, operand, f)
 }
 
 // [att$=val]
+#[tactic(auto, using(crate::proofs::Turns::suffixes), unfolding(crate::specs::Operators::suffix_holds))]
 pub fn has_attr_with_suffix(value: &[u8], operand: &[u8], f: bool) -> bool
     ensures { result ≡ suffix_holds f value.now operand.now }
 {
-    if value.len() == 0 {
-        return false;
-    }
-    if value.len() < operand.len() {
+    if value.is_empty() || value.len() < operand.len() {
         return false;
     }
     let at = value.len() - operand.len();
@@ -49,35 +46,25 @@ pub fn has_attr_with_suffix(value: &[u8], operand: &[u8], f: bool) -> bool
 }
 
 // [att|=val]
+#[tactic(auto, unfolding(crate::specs::Operators::dash_holds))]
 pub fn has_dash_matching_attr(value: &[u8], operand: &[u8], f: bool) -> bool
     ensures { result ≡ dash_holds f value.now operand.now }
 {
-    let n = operand.len();
-    if same(value, f, operand, f) {
-        return true;
-    }
-    if value.len() <= n {
-        return false;
-    }
-    if value[n] != b'-' {
-        return false;
-    }
-    begins(value, operand, f)
+    same(value, f, operand, f)
+        || value.get(operand.len()) == Some(&b'-') && begins(value, operand, f)
 }
 
 // [att*=val]
 pub fn has_attr_with_substring(value: &[u8], operand: &[u8], f: bool) -> bool
     ensures { result ≡ substring_holds f value.now operand.now }
 {
-    if operand.len() == 0 {
+    if operand.is_empty() {
         return false;
     }
-    let mut i = 0;
-    while i < value.len() {
+    for i in 0..value.len() {
         if begins(&value[i..], operand, f) {
             return true;
         }
-        i += 1;
     }
     false
 }
@@ -86,21 +73,13 @@ pub fn has_attr_with_substring(value: &[u8], operand: &[u8], f: bool) -> bool
 pub fn matches_splitted_by_whitespace(value: &[u8], operand: &[u8], f: bool) -> bool
     ensures { result ≡ includes_holds f value.now operand.now }
 {
-    let mut start = 0;
-    let mut i = 0;
-    while i < value.len() {
-        if is_attr_whitespace(value[i]) {
-            if same(&value[start..i], f, operand, f) {
-                return true;
-            }
-            start = i + 1;
-        }
-        i += 1;
-    }
-    same(&value[start..], f, operand, f)
+    value
+        .split(|b| is_attr_whitespace(*b))
+        .any(|part| same(part, f, operand, f))
 }
 
 // A value against an operand.
+#[tactic(auto, unfolding(crate::specs::Operators::operator_holds))]
 pub fn compare(operator: Operator, value: &[u8], operand: &[u8], f: bool) -> bool
     ensures { result ≡ operator_holds operator f value.now operand.now }
 {

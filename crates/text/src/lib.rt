@@ -10,12 +10,10 @@ pub fn put_text(out: &mut [u8], at: usize, text: &[u8]) -> usize
     requires { (at ≤ 8589934592) × (length text.now ≤ 65536) }
     ensures { Wrote out.old at text.now result out.new }
 {
-    let mut i = 0;
-    while i < text.len() {
-        put8(out, at + i, text[i]);
-        i += 1;
+    for (i, b) in text.iter().enumerate() {
+        put8(out, at + i, *b);
     }
-    at + i
+    at + text.len()
 }
 
 // The last k digits of n, no zeros in front.
@@ -27,11 +25,11 @@ fn put_digits(out: &mut [u8], at: usize, k: usize, n: u64) -> usize
         return at;
     }
     if n < 10 {
-        put8(out, at, 48 + (n % 10) as u8);
+        put8(out, at, b'0' + (n % 10) as u8);
         return at + 1;
     }
     let next = put_digits(out, at, k - 1, n / 10);
-    put8(out, next, 48 + (n % 10) as u8);
+    put8(out, next, b'0' + (n % 10) as u8);
     next + 1
 }
 

@@ -5,6 +5,3 @@ use Rattle.id_sets.proofs.next_id.Given as goal
 
 abbrev pub invariant-loop-i : goal.invariant-loop-i
 invariant-loop-i l = (l.passed < 64) × (ids_from l.words l.from (65536 - l.from) ≡ ids_from l.words (l.i * 64 + l.passed) (65536 - (l.i * 64 + l.passed)))
-
-abbrev pub decreases-loop-i : goal.decreases-loop-i
-decreases-loop-i l = 1024 - l.i

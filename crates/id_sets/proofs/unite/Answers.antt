@@ -1,20 +1,14 @@
-use mathlib.Core.Path.{refl, sym, ◌∙◌}
+use mathlib.Core.Path.{sym, ◌∙◌}
 use native.Mathlib.Omega.{arith}
-use lib.ListN.{length-set}
+use Rattle.std.proofs.lemmas.List.{set-get_or}
 use Rattle.id_sets.proofs.IdSteps.{union-step, union-done, union-all}
 use Rattle.id_sets.proofs.unite.Goals as goal
 
-pub loop-i-init : goal.loop-i-init
-loop-i-init c = (refl, (omega arith, refl))
-
-pub returns-then-more-i : goal.returns-then-more-i
-returns-then-more-i c = sym (c.loop-i.invariant.1.1 ∙ union-done _ _ _ c.if-more-i.true (omega arith))
-
-pub loop-i-smaller : goal.loop-i-smaller
-loop-i-smaller c = simp length-set (omega arith)
+pub returns-in_default : goal.returns-in_default
+returns-in_default c = let h = c.in_default.ensures.lookup in rw set-get_or (sym (c.loop-i.invariant ∙ union-done _ _ c.loop-i.i h.3 (omega arith)))
 
 pub loop-i-preserved : goal.loop-i-preserved
-loop-i-preserved c = (simp length-set c.loop-i.invariant.0, (simp length-set (omega arith), c.loop-i.invariant.1.1 ∙ union-step _ _ _ c.loop-i-test.true c.if-more-i.false))
+loop-i-preserved c = let h = c.in-Some.ensures.lookup in rw (h.3.1 0) (c.loop-i.invariant ∙ union-step _ _ c.loop-i.i (omega arith) h.3.0)
 
 pub returns : goal.returns
-returns c = sym (c.loop-i.invariant.1.1 ∙ union-all _ _ _ c.loop-i-test.false)
+returns c = sym (c.loop-i.invariant ∙ union-all c.loop-i.words _ _ (omega arith))

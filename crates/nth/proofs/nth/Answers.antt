@@ -1,4 +1,6 @@
+use mathlib.Core.Path.{◌∙◌}
 use native.Mathlib.Omega.{arith}
+use borrow.Author.Tests.{ne_eqb}
 use Rattle.nth.proofs.Signed.{wide, diff-abs, abs-fits, s-is, d-is, rem-fits, answer-zero, answer-part, answer-falls, answer-rises}
 use Rattle.nth.proofs.nth.Goals as goal
 
@@ -17,11 +19,11 @@ returns-then-s-eq0 c = answer-zero _ _ _ c.ranges.step c.ranges.offset c.ranges.
 pub nonzero_rem-d : goal.nonzero_rem-d
 nonzero_rem-d c = (omega arith, rem-fits _ _ _ c.ranges.step c.ranges.offset c.ranges.index)
 
-pub returns-then-d-s-ne0 : goal.returns-then-d-s-ne0
-returns-then-d-s-ne0 c = answer-part _ _ _ c.ranges.step c.ranges.offset c.ranges.index c.if-s-eq0.false c.if-d-s-ne0.true
+pub returns-else-d-s-eq0 : goal.returns-else-d-s-eq0
+returns-else-d-s-eq0 c = ne_eqb _ _ c.if-d-s-eq0.false ∙ answer-part _ _ _ c.ranges.step c.ranges.offset c.ranges.index c.if-s-eq0.false c.if-d-s-eq0.false
 
 pub returns-then-s-lt0 : goal.returns-then-s-lt0
-returns-then-s-lt0 c = answer-falls _ _ _ c.ranges.step c.ranges.offset c.ranges.index c.if-s-eq0.false c.if-d-s-ne0.false c.if-s-lt0.true
+returns-then-s-lt0 c = answer-falls _ _ _ c.ranges.step c.ranges.offset c.ranges.index c.if-s-eq0.false c.if-d-s-eq0.true c.if-s-lt0.true
 
-pub returns : goal.returns
-returns c = answer-rises _ _ _ c.ranges.step c.ranges.offset c.ranges.index c.if-s-eq0.false c.if-d-s-ne0.false c.if-s-lt0.false
+pub returns-else-s-lt0 : goal.returns-else-s-lt0
+returns-else-s-lt0 c = answer-rises _ _ _ c.ranges.step c.ranges.offset c.ranges.index c.if-s-eq0.false c.if-d-s-eq0.true c.if-s-lt0.false

@@ -1,16 +1,12 @@
+use mathlib.Core.Path.{◌∙◌}
 use Rattle.operators.specs.Operators.{prefix_holds}
-use Rattle.operators.proofs.Turns.{empty-yes, empty-no}
-use borrow.Author.Rules.{rules}
+use Rattle.operators.proofs.Turns.{empty-is}
 use Rattle.operators.proofs.has_attr_with_prefix.Goals as goal
 
-pub returns-then-value-eq0 : goal.returns-then-value-eq0
+pub returns-then-not-is_empty : goal.returns-then-not-is_empty
 unfolding prefix_holds
-returns-then-value-eq0 c = search empty-yes
+returns-then-not-is_empty c = let e = c.is_empty.ensures ∙ empty-is c.args.value.now in rw (← e, c.if-not-is_empty.true) c.begins.ensures
 
-pub begins-requires : goal.begins-requires
+pub returns-else-not-is_empty : goal.returns-else-not-is_empty
 unfolding prefix_holds
-begins-requires c = search rules
-
-pub returns : goal.returns
-unfolding prefix_holds
-returns c = search empty-no
+returns-else-not-is_empty c = let e = c.is_empty.ensures ∙ empty-is c.args.value.now in rw (← e, c.if-not-is_empty.false)

@@ -1,22 +1,12 @@
-use mathlib.Core.Path.{refl, sym, ◌∙◌}
-use native.Mathlib.Omega.{arith}
-use Rattle.operators.specs.Operators.{split, includes_holds}
-use Rattle.operators.proofs.Turns.{turn-hit, turn-space, turn-other, last-part, rest-is}
+use Rattle.std.proofs.Common.{rules, tests, ◌∙◌}
+use Rattle.std.proofs.lemmas.Iterator.Search.{any_from_yields_List}
+use Rattle.std.proofs.lemmas.Iterator.Splits.{YieldsList-from_slice_split}
+use Rattle.letters.specs.Bytes.{same_bytes, space_byte}
+use Rattle.operators.proofs.Turns.{includes-is}
 use Rattle.operators.proofs.matches_splitted_by_whitespace.Goals as goal
-use Rattle.operators.proofs.matches_splitted_by_whitespace.Goals.{then-is_attr_whitespace+else-same, else-is_attr_whitespace}
-
-pub loop-i-init : goal.loop-i-init
-unfolding includes_holds split
-loop-i-init c = (omega arith, (omega arith, refl))
-
-pub returns-then-same : goal.returns-then-same
-returns-then-same c = sym (c.loop-i.invariant.1.1 ∙ turn-hit _ _ _ c.loop-i.i (omega arith) _ (sym c.is_attr_whitespace.ensures ∙ c.if-is_attr_whitespace.true) (sym c.same.ensures ∙ c.if-same.true))
-
-pub loop-i-preserved : goal.loop-i-preserved
-loop-i-preserved c = elim c.if-is_attr_whitespace.branch [
-  | then-is_attr_whitespace+else-same w ↦ (omega (arith, w.start-is), (omega arith, c.loop-i.invariant.1.1 ∙ turn-space _ _ _ c.loop-i.i (omega arith) _ _ (sym c.is_attr_whitespace.ensures ∙ w.if-is_attr_whitespace.true) (sym w.same.ensures ∙ w.if-same.false) w.start-is))
-  | else-is_attr_whitespace w ↦ (omega (arith, w.start-is), (omega arith, c.loop-i.invariant.1.1 ∙ turn-other _ _ _ c.loop-i.i (omega arith) _ _ (omega arith) (sym c.is_attr_whitespace.ensures ∙ w.if-is_attr_whitespace.false) w.start-is))
-]
 
 pub returns : goal.returns
-returns c = (rw rest-is at c.same-2.ensures) ∙ sym (c.loop-i.invariant.1.1 ∙ last-part _ _ _ c.loop-i.i _ (omega arith))
+returns c =
+    any_from_yields_List (λ p. same_bytes c.args.f c.args.f p c.args.operand.now) c.any.new.self _ c.any.result c.any.ensures.ran
+    (YieldsList-from_slice_split _ space_byte c.args.value.now c.split.ensures.rest c.split.ensures.done c.split.ensures.closure (λ x b q k. search (rules, tests))) (λ x b q k. search (rules, tests))
+    ∙ includes-is c.args.f c.args.value.now c.args.operand.now

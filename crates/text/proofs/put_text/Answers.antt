@@ -5,10 +5,10 @@ use Rattle.text.proofs.Laws.{text-more, text-all}
 use Rattle.text.proofs.put_text.Goals as goal
 
 pub loop-i-init : goal.loop-i-init
-loop-i-init c = (omega arith, refl, rw add-zero)
+loop-i-init c = (refl, rw add-zero)
 
 pub loop-i-preserved : goal.loop-i-preserved
-loop-i-preserved c = (omega arith, omega arith, c.loop-i.invariant.2 ∙ text-more c.loop-i.out _ c.args.text.now c.args.at c.loop-i.i (omega arith) c.put8.ensures)
+loop-i-preserved c = (omega arith, c.loop-i.invariant.1 ∙ text-more c.loop-i.out _ c.args.text.now c.args.at c.loop-i.i (omega arith) c.put8.ensures)
 
 pub returns : goal.returns
-returns c = (omega arith, sym (c.loop-i.invariant.2 ∙ text-all _ c.args.text.now c.args.at c.loop-i.i (omega arith)))
+returns c = (refl, sym (c.loop-i.invariant.1 ∙ text-all _ c.args.text.now c.args.at c.loop-i.i (omega arith)))
