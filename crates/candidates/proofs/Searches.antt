@@ -2,8 +2,9 @@
 use mathlib.Core.Path.{◌≡◌, refl, sym, ◌∙◌, ap, subst}
 use mathlib.Core.Bool.{Bool, true, false, cond}
 use mathlib.Core.List.{List, [], ◌∷◌, ◌++◌, append_assoc}
-use Prim.Native.Nat.{ℕ, zero, suc, ◌+◌, ◌-◌, ◌*◌, ◌<◌, ◌≤◌, ◌^◌}
+use Prim.Native.Nat.{ℕ, zero, suc, ◌+◌, ◌-◌, ◌*◌, ◌<◌, ◌≤◌, ◌^◌, min}
 use native.Mathlib.Omega.{arith}
+use Rattle.std.proofs.Common.{◌⊎◌, inl, inr}
 use native.Mathlib.Nat.{sub-zero}
 use borrow.Author.Tests.{lt-ltb, le-ltb, le-leb, lt-leb, leb-true, eq-eqb, ne_eqb, ltb-true, ltb-false, eqb-true, eqb-false}
 use lib.Dec.{eqb, ltb, leb}
@@ -11,8 +12,7 @@ use lib.ListN.{get_or, take}
 use lib.Seq.{take-nil}
 use Rattle.cursors.specs.declared.Cursor.{Cursor}
 use Rattle.cursors.specs.declared.Ranges.{Ranges}
-use Rattle.cursors.specs.declared.Jump.{Jump}
-use Rattle.candidates.specs.declared.Candidate.{Candidate}
+use Rattle.std.specs.Prelude.{Option, Some, None}
 use Rattle.cursors.specs.Cursors.{cursor_of, after_cursor, range_at, jump_of, left_in, ride, rides, later, rest}
 use Rattle.instructions.specs.Instructions.{key_fits}
 use Rattle.candidates.specs.Candidates.{jumps, first_keyed, affordable, from_keyed, Reached}
@@ -45,17 +45,17 @@ module _ (program nodes : List ℕ) (ranges : Ranges) where
 
 -- what an answer of the three tests says of them
 module _ (x y z d : Cursor) where
-  three : Bool → Bool → Bool → Jump
-  three b1 b2 b3 = cond b1 (cond b2 (Jump.To x) (Jump.To y)) (cond b3 (Jump.To z) Jump.Done)
+  three : Bool → Bool → Bool → Option Cursor
+  three b1 b2 b3 = cond b1 (cond b2 (Some x) (Some y)) (cond b3 (Some z) None)
 
-  to_inv : (P : Cursor → Type 0) (b1 b2 b3 : Bool) → three b1 b2 b3 ≡ Jump.To d → (b1 ≡ true → b2 ≡ true → P x) → (b1 ≡ true → b2 ≡ false → P y) → (b1 ≡ false → b3 ≡ true → P z) → P d
+  to_inv : (P : Cursor → Type 0) (b1 b2 b3 : Bool) → three b1 b2 b3 ≡ Some d → (b1 ≡ true → b2 ≡ true → P x) → (b1 ≡ true → b2 ≡ false → P y) → (b1 ≡ false → b3 ≡ true → P z) → P d
   unfolding three
   to_inv P true true b3 e p q r = let n : x ≡ d = cc in subst P n (p refl refl)
   to_inv P true false b3 e p q r = let n : y ≡ d = cc in subst P n (q refl refl)
   to_inv P false b2 true e p q r = let n : z ≡ d = cc in subst P n (r refl refl)
   to_inv P false b2 false e p q r = let n : z ≡ d = cc in let m : false ≡ true = cc in subst P n (r refl m)
 
-  done-inv : (b1 b2 b3 : Bool) → three b1 b2 b3 ≡ Jump.Done → (b1 ≡ false) × (b3 ≡ false)
+  done-inv : (b1 b2 b3 : Bool) → three b1 b2 b3 ≡ None → (b1 ≡ false) × (b3 ≡ false)
   unfolding three
   done-inv true true b3 e = (cc, cc)
   done-inv true false b3 e = (cc, cc)
@@ -67,7 +67,7 @@ pub record Jumped (program nodes : List ℕ) (ranges : Ranges) (c d : Cursor) : 
   pub less : jumps ranges d < jumps ranges c
 
 module _ (program nodes : List ℕ) (ranges : Ranges) (c d : Cursor) where
-  pub jumped : jump_of program nodes ranges c ≡ Jump.To d → Jumped program nodes ranges c d
+  pub jumped : jump_of program nodes ranges c ≡ Some d → Jumped program nodes ranges c d
   unfolding jump_of three jumps range_at
   jumped e =
       to_inv (range_at program nodes 3 0 c.slot) (cursor_of 1 ranges.ancestors_from 0 0) (range_at program nodes 5 1 c.slot) d (λ k. Jumped program nodes ranges c k)
@@ -76,7 +76,7 @@ module _ (program nodes : List ℕ) (ranges : Ranges) (c d : Cursor) where
       (λ p q. let r : ranges.parents_top ≤ c.slot = ltb-false _ _ q in record { list = later-turn program nodes ranges c.stage c.slot (eqb-true _ _ p) r; less = rw p (omega arith) })
       (λ p q. let r : c.slot < ranges.ancestors_top = ltb-true _ _ q in record { list = later-hop-1 program nodes ranges c.stage c.slot (eqb-false _ _ p) r; less = rw p (omega arith) })
 
-  pub jumped-out : jump_of program nodes ranges c ≡ Jump.Done → later program nodes ranges c.stage c.slot ≡ []
+  pub jumped-out : jump_of program nodes ranges c ≡ None → later program nodes ranges c.stage c.slot ≡ []
   unfolding jump_of three
   jumped-out e =
       let r = done-inv (range_at program nodes 3 0 c.slot) (cursor_of 1 ranges.ancestors_from 0 0) (range_at program nodes 5 1 c.slot) d
@@ -90,20 +90,13 @@ module _ (limit at stop budget : ℕ) where
   unfolding affordable left_in
   none-past h = let z : ltb budget 0 ≡ false = le-ltb budget 0 (omega arith) in rw (lt-leb _ _ h, z)
 
-  pub none_left : stop ≤ limit → stop ≤ at → 0 ≡ affordable limit at stop budget
+  pub capped : stop ≤ limit → min (stop - at) budget ≡ affordable limit at stop budget
   unfolding affordable left_in
-  none_left h g =
-      let e : stop - at ≡ 0 = omega arith in
-      let z : ltb budget 0 ≡ false = le-ltb budget 0 (omega arith) in
-      rw (le-leb _ _ h, e, z)
-
-  pub some_left : stop ≤ limit → budget < stop - at → budget ≡ affordable limit at stop budget
-  unfolding affordable left_in
-  some_left h g = rw (le-leb _ _ h, lt-ltb _ _ g)
-
-  pub all_left : stop ≤ limit → stop - at ≤ budget → stop - at ≡ affordable limit at stop budget
-  unfolding affordable left_in
-  all_left h g = rw (le-leb _ _ h, le-ltb _ _ g)
+  capped h = rw (le-leb _ _ h) (go (ltb budget (stop - at)) refl)
+    where
+      go : (b : Bool) → ltb budget (stop - at) ≡ b → min (stop - at) budget ≡ cond b budget (stop - at)
+      go true e = let z = ltb-true budget (stop - at) e in omega (arith, z)
+      go false e = let z = ltb-false budget (stop - at) e in omega (arith, z)
 
   -- what it is
   record Afforded (n : ℕ) : Type 0 where
@@ -135,13 +128,10 @@ module _ (limit at stop : ℕ) where
 -- ---- the first whose key fits
 
 module _ (program : List ℕ) (key a w : ℕ) (row : w ≡ get_or program (a * 8 + 7) 0) where
-  pub fits-none : w ≡ 0 → key_fits program key a ≡ true
+  pub fits : (w ≡ 0) ⊎ ((w ≡ 0 → ⊥) × (w ≡ key)) → key_fits program key a ≡ true
   unfolding key_fits
-  fits-none e = rw (eq-eqb _ _ (sym row ∙ e))
-
-  pub fits-same : (w ≡ 0 → ⊥) → w ≡ key → key_fits program key a ≡ true
-  unfolding key_fits
-  fits-same n e = rw (ne_eqb _ _ (λ z. n (row ∙ z)), eq-eqb _ _ (sym row ∙ e))
+  fits (inl e) = rw (eq-eqb _ _ (sym row ∙ e))
+  fits (inr (n, e)) = rw (ne_eqb _ _ (λ z. n (row ∙ z)), eq-eqb _ _ (sym row ∙ e))
 
   pub fits_not : (w ≡ 0 → ⊥) → (w ≡ key → ⊥) → key_fits program key a ≡ false
   unfolding key_fits
@@ -201,7 +191,7 @@ module _ (program nodes : List ℕ) (ranges : Ranges) (key : ℕ) (from : Cursor
   abbrev pub SameLeft : Type 0
   SameLeft = from_keyed program key (take budget (rest program nodes ranges from)) ≡ from_keyed program key (take left (rest program nodes ranges c))
 
-  pub nothing_left : SameLeft → left ≤ 0 → Reached program nodes ranges key from budget Candidate.Over
+  pub nothing_left : SameLeft → left ≤ 0 → Reached program nodes ranges key from budget None
   unfolding Reached from_keyed
   nothing_left s h = let z : left ≡ 0 = omega arith in s ∙ rw z
 
@@ -212,16 +202,16 @@ module _ (program nodes : List ℕ) (ranges : Ranges) (key : ℕ) (from : Cursor
         let g = subst (Afforded ranges.limit c.at c.stop left) (sym allowed) (afforded ranges.limit c.at c.stop left) in
         past-range program key c.stage c.slot c.stop (later program nodes ranges c.stage c.slot) n c.at (left_in ranges.limit c.at c.stop) left (omega arith) g.inside g.within g.spent
 
-    pub jumped-to : (d : Cursor) → SameLeft → c.at + n ≤ a → jump_of program nodes ranges c ≡ Jump.To d
+    pub jumped-to : (d : Cursor) → SameLeft → c.at + n ≤ a → jump_of program nodes ranges c ≡ Some d
         → from_keyed program key (take budget (rest program nodes ranges from)) ≡ from_keyed program key (take (left - n) (rest program nodes ranges d))
     jumped-to d s h e = s ∙ range-past h ∙ ap (λ l. from_keyed program key (take (left - n) l)) (jumped program nodes ranges c d e).list
 
-    pub jumped-over : SameLeft → c.at + n ≤ a → jump_of program nodes ranges c ≡ Jump.Done → Reached program nodes ranges key from budget Candidate.Over
+    pub jumped-over : SameLeft → c.at + n ≤ a → jump_of program nodes ranges c ≡ None → Reached program nodes ranges key from budget None
     unfolding Reached from_keyed
     jumped-over s h e = s ∙ range-past h ∙ rw (jumped-out program nodes ranges c c e, take-nil (left - n))
 
     pub reached-here : SameLeft → left ≤ budget → c.at ≤ a → a < c.at + n → a < 2 ^ 16
-        → Reached program nodes ranges key from budget (Candidate.At (cursor_of c.stage c.slot a c.stop) (left - (a - c.at) - 1))
+        → Reached program nodes ranges key from budget (Some (cursor_of c.stage c.slot a c.stop, left - (a - c.at) - 1))
     unfolding Reached rest after_cursor
     reached-here s b f h u =
         let g = subst (Afforded ranges.limit c.at c.stop left) (sym allowed) (afforded ranges.limit c.at c.stop left) in

@@ -1,8 +1,7 @@
 -- The search for the next instruction whose key fits: what the inner functions of the scans promise to each other. No public promise of the machine cites it.
-use Rattle.std.specs.Prelude.{◌≡◌, true, cond, List, [], ◌∷◌, ℕ, zero, suc, ◌+◌, ◌-◌, ◌<◌, ◌^◌, eqb, ltb, take}
+use Rattle.std.specs.Prelude.{◌≡◌, true, cond, List, [], ◌∷◌, ℕ, zero, suc, ◌+◌, ◌-◌, ◌<◌, ◌^◌, eqb, ltb, take, Option, Some, None}
 use Rattle.cursors.specs.declared.Cursor.{Cursor}
 use Rattle.cursors.specs.declared.Ranges.{Ranges}
-use Rattle.candidates.specs.declared.Candidate.{Candidate}
 use Rattle.cursors.specs.Cursors.{after_cursor, left_in, rest}
 use Rattle.instructions.specs.Instructions.{key_fits}
 
@@ -28,8 +27,8 @@ from_keyed program key [] = []
 from_keyed program key (c ∷ cs) = cond (key_fits program key c.at) (c ∷ cs) (from_keyed program key cs)
 
 -- A candidate stands on the first instruction whose key fits, and what comes after it is left; or there is none.
-unfoldable pub Reached : (program nodes : List ℕ) → Ranges → (key : ℕ) → Cursor → (budget : ℕ) → Candidate → Type 0
-Reached program nodes ranges key from budget Candidate.Over = from_keyed program key (take budget (rest program nodes ranges from)) ≡ []
-Reached program nodes ranges key from budget (Candidate.At d left) =
+unfoldable pub Reached : (program nodes : List ℕ) → Ranges → (key : ℕ) → Cursor → (budget : ℕ) → Option (Cursor × ℕ) → Type 0
+Reached program nodes ranges key from budget None = from_keyed program key (take budget (rest program nodes ranges from)) ≡ []
+Reached program nodes ranges key from budget (Some (d, left)) =
     (from_keyed program key (take budget (rest program nodes ranges from)) ≡ d ∷ take left (rest program nodes ranges (after_cursor d)))
     × ((key_fits program key d.at ≡ true) × ((d.at < 2 ^ 16) × (left < budget)))

@@ -5,14 +5,12 @@ ghost use Rattle.std.specs.Prelude.{◌≡◌, ◌+◌, ◌≤◌, ◌^◌, max}
 ghost use Rattle.candidates.specs.Candidates.{Reached, affordable, first_keyed};
 
 use cells::get32;
-use cursors::{Cursor, Jump, Ranges};
+use cursors::{Cursor, Ranges};
 
-// The cursor on the next instruction whose key fits, with the budget for what comes after it.
-#[derive(Clone, Copy)]
-pub enum Candidate {
-    At(Cursor, usize),
-    Over,
-}
+// The words of a row, of which one is the name key.
+const ROW_WORDS: usize = 8;
+
+const KEY: usize = 7;
 
 // How many instructions of a range a budget allows; none of a range that ends past the limit.
 fn stretch(at: usize, stop: usize, limit: u16, budget: usize) -> usize
@@ -21,13 +19,7 @@ fn stretch(at: usize, stop: usize, limit: u16, budget: usize) -> usize
     if (limit as usize) < stop {
         return 0;
     }
-    if stop <= at {
-        return 0;
-    }
-    if budget < stop - at {
-        return budget;
-    }
-    stop - at
+    stop.saturating_sub(at).min(budget)
 }
 
 // The first of so many instructions that has no name key or this one; the one after them if there is none. One word a row is read.
@@ -36,21 +28,16 @@ fn first_keyed(program: &[u32], key: u32, from: usize, count: usize) -> usize
     ensures { (result ≡ first_keyed program.now key from count) × ((from ≤ result) × (result ≤ from + count)) }
 {
     let end = from + count;
-    let mut a = from;
-    while a < end {
-        let wanted = get32(program, a * 8 + 7);
-        if wanted == 0 {
+    for a in from..end {
+        let wanted = get32(program, a * ROW_WORDS + KEY);
+        if wanted == 0 || wanted == key {
             return a;
         }
-        if wanted == key {
-            return a;
-        }
-        a += 1;
     }
-    a
+    end
 }
 
-// The next instruction whose key fits, among as many as the budget allows.
+// The cursor on the next instruction whose key fits, among as many as the budget allows, with the budget for what comes after it.
 pub fn next_candidate(
     program: &[u32],
     nodes: &[u16],
@@ -58,34 +45,20 @@ pub fn next_candidate(
     key: u32,
     from: Cursor,
     budget: usize,
-) -> Candidate
+) -> Option<(Cursor, usize)>
     ensures { Reached program.now nodes.now ranges key from budget result }
 {
-    let limit = ranges.limit;
     let mut c = from;
     let mut left = budget;
     while 0 < left {
-        let at = c.at;
-        let count = stretch(at, c.stop, limit, left);
-        let a = first_keyed(program, key, at, count);
-        if a < at + count {
-            let found = Cursor {
-                stage: c.stage,
-                slot: c.slot,
-                at: a,
-                stop: c.stop,
-            };
-            return Candidate::At(found, left - (a - at) - 1);
+        let count = stretch(c.at, c.stop, ranges.limit, left);
+        let a = first_keyed(program, key, c.at, count);
+        if a < c.at + count {
+            let found = Cursor { at: a, ..c };
+            return Some((found, left - (a - c.at) - 1));
         }
         left -= count;
-        match c.jump(program, nodes, ranges) {
-            Jump::To(d) => {
-                c = d;
-            }
-            Jump::Done => {
-                return Candidate::Over;
-            }
-        }
+        c = c.jump(program, nodes, ranges)?;
     }
-    Candidate::Over
+    None
 }

@@ -6,6 +6,7 @@ use Prim.Native.Nat.{ℕ, ◌+◌, ◌-◌, ◌*◌, ◌^◌, ◌<◌}
 use native.Mathlib.Nat.{zero-add}
 use borrow.Author.Tests.{not-true, not-false}
 use lib.ListN.{length, get_or, length-append}
+use Rattle.std.specs.Prelude.{Some}
 use Rattle.cells.specs.Stretches.{written, length-cells}
 use Rattle.names.specs.Names.{name_key}
 use Rattle.rules.specs.Attributes.{attributes_of}
@@ -25,9 +26,9 @@ first-is sheet rows d slot roots c e f g h = h ∙ (λ i. first_cursor ((f ∙ a
 -- ---- the scan of a start tag
 
 module _ (sheet program rows names nodes name : List ℕ) (kind : ℕ) (found : List ℕ) (from : Cursor) (f : from ≡ first_live sheet rows) (html : Bool) (g : html ≡ is_html kind) where
-  pub begin-waits : not html ≡ true → (record { count = 0; stuck = true; cursor = from } ≡ answer_from 0 (begin sheet program rows names nodes name kind)) × (found ≡ written found 0 (found_in (begin sheet program rows names nodes name kind)))
+  pub begin-waits : not html ≡ true → (record { count = 0; stopped_at = Some from } ≡ answer_from 0 (begin sheet program rows names nodes name kind)) × (found ≡ written found 0 (found_in (begin sheet program rows names nodes name kind)))
   unfolding begin answer_from found_in written
-  begin-waits h = rw (← g, not-true html h) ((λ i. record { count = 0; stuck = true; cursor = f i }), refl)
+  begin-waits h = rw (← g, not-true html h) ((λ i. record { count = 0; stopped_at = Some (f i) }), refl)
 
   pub begin-scans : (ranges : Ranges) (key child of_type budget : ℕ) (r : Scanned) (last : List ℕ) → not html ≡ false
       → ranges ≡ live_ranges sheet rows → child ≡ child_position rows → of_type ≡ type_position rows names name → key ≡ name_key name → (budget ≡ node_count sheet) × (budget < 2 ^ 16)

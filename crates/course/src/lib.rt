@@ -13,9 +13,12 @@ use counters::{child_count, inc, times};
 use cursors::{Cursor, Ranges};
 use exec::scan::{Scanned, scan_attributes, scan_tag};
 use names::name_key;
+use node_tests::Tag;
+use node_tests::attribute_matcher::AttributeMatcher;
 use shapes::counts_types;
 use waiting::held_found;
 
+// Kept as it is: the header's word 6 holds namespace and void as one number, of which `kind_of`, `is_html` and `has_content` of specs/Course.antt speak.
 pub fn kind_of(namespace: u32, void: bool) -> u32
     requires { namespace ≤ 2 }
     ensures { result ≡ kind_of namespace void }
@@ -33,9 +36,10 @@ pub fn has_content(kind: u32, self_closing: bool) -> bool
     ensures { result ≡ has_content kind self_closing }
 {
     if is_html(kind) {
-        return kind / 4 % 2 != 1;
+        kind / 4 % 2 != 1
+    } else {
+        !self_closing
     }
-    !self_closing
 }
 
 fn child_position(rows: &[u32]) -> u32
@@ -48,9 +52,23 @@ fn type_position(rows: &[u32], names: &[u8], name: &[u8]) -> u32
     ensures { result ≡ type_position rows.now names.now name.now }
 {
     if counts_types(rows) {
-        return inc(times(rows, names, name));
+        inc(times(rows, names, name))
+    } else {
+        1
     }
-    1
+}
+
+// The tag that comes now or waits, as it is tested.
+fn tag_of<'n>(rows: &[u32], names: &[u8], name: &'n [u8]) -> Tag<'n>
+    ensures name { result.name ≡ name.entry }
+    ensures child { result.child ≡ child_position rows.now }
+    ensures of_type { result.of_type ≡ type_position rows.now names.now name.now }
+{
+    Tag {
+        name,
+        child: child_position(rows),
+        of_type: type_position(rows, names, name),
+    }
 }
 
 fn live_ranges(sheet: &[u8], rows: &[u32]) -> Ranges
@@ -98,23 +116,19 @@ pub fn begin_scan(
     if !is_html(kind) {
         return Scanned {
             count: 0,
-            stuck: true,
-            cursor: from,
+            stopped_at: Some(from),
         };
     }
     let ranges = live_ranges(sheet, rows);
-    let child = child_position(rows);
-    let of_type = type_position(rows, names, name);
+    let tag = tag_of(rows, names, name);
     let key = name_key(name);
     scan_tag(
         sheet,
         program,
         nodes,
         ranges,
-        name,
+        tag,
         key,
-        child,
-        of_type,
         from,
         u16_at(sheet, 5) as u16,
         found,
@@ -138,10 +152,10 @@ pub fn resume_scan(
 {
     let count = held_found(rows, nodes, found);
     let ranges = live_ranges(sheet, rows);
-    let child = child_position(rows);
-    let of_type = type_position(rows, names, name);
+    let tag = tag_of(rows, names, name);
     let key = name_key(name);
     let html = is_html(get32(rows, 6));
+    let attributes = AttributeMatcher::new(input, outlines, html);
     let from = held_cursor(rows);
     let budget = (u16_at(sheet, 5) - count) as u16;
     scan_attributes(
@@ -149,13 +163,9 @@ pub fn resume_scan(
         program,
         nodes,
         ranges,
-        name,
+        tag,
         key,
-        child,
-        of_type,
-        input,
-        outlines,
-        html,
+        attributes,
         from,
         budget,
         count as u16,

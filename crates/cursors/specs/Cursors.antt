@@ -1,9 +1,8 @@
 -- The live instructions, as the cursors that stand on them (01, sections 3 and 9).
-use Rattle.std.specs.Prelude.{cond, List, [], ◌∷◌, ◌++◌, map, ℕ, zero, suc, ◌+◌, ◌-◌, ◌*◌, eqb, ltb, leb, get_or}
+use Rattle.std.specs.Prelude.{cond, List, [], ◌∷◌, ◌++◌, map, ℕ, zero, suc, ◌+◌, ◌-◌, ◌*◌, eqb, ltb, leb, get_or, Option, Some, None}
 use Rattle.instructions.specs.Instructions.{row_word}
 use Rattle.cursors.specs.declared.Cursor.{Cursor}
 use Rattle.cursors.specs.declared.Ranges.{Ranges}
-use Rattle.cursors.specs.declared.Jump.{Jump}
 
 -- A cursor by its stage, the slot of the next node, and its range: where it stands and where the range stops.
 abbrev pub cursor_of : ℕ → ℕ → ℕ → ℕ → Cursor
@@ -24,11 +23,11 @@ range_at program nodes w stage slot =
     (row_word program (get_or nodes slot 0) w + get_or program (get_or nodes slot 0 * 8 + w + 1) 0)
 
 -- The next range: of the parents in slot .. parents_top at stage 0, then of the ancestors in ancestors_from .. ancestors_top at stage 1.
-unfoldable pub jump_of : List ℕ → List ℕ → Ranges → Cursor → Jump
+unfoldable pub jump_of : List ℕ → List ℕ → Ranges → Cursor → Option Cursor
 jump_of program nodes ranges c =
     cond (eqb c.stage 0)
-    (cond (ltb c.slot ranges.parents_top) (Jump.To (range_at program nodes 3 0 c.slot)) (Jump.To (cursor_of 1 ranges.ancestors_from 0 0)))
-    (cond (ltb c.slot ranges.ancestors_top) (Jump.To (range_at program nodes 5 1 c.slot)) Jump.Done)
+    (cond (ltb c.slot ranges.parents_top) (Some (range_at program nodes 3 0 c.slot)) (Some (cursor_of 1 ranges.ancestors_from 0 0)))
+    (cond (ltb c.slot ranges.ancestors_top) (Some (range_at program nodes 5 1 c.slot)) None)
 
 -- How many instructions a range has from a place on; a range that ends past the last instruction is not followed.
 unfoldable pub left_in : ℕ → ℕ → ℕ → ℕ

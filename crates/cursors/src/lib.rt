@@ -15,7 +15,18 @@ pub struct Ranges {
     pub limit: u16,
 }
 
-// Stage 0 is at the roots or at child ranges, stage 1 at descendant ranges; `slot` is the next node whose range comes.
+// The stages of a cursor, as the header's word 8 holds them: at the roots or at child ranges, and at descendant ranges.
+// Kept as it is: `held_cursor` promises the number of the header's word 8 whatever it is, so the stage is no enum.
+const AT_CHILDREN: u32 = 0;
+
+const AT_DESCENDANTS: u32 = 1;
+
+// The words of a node's row where its child range and its descendant range begin; their lengths follow them.
+const CHILDREN: usize = 3;
+
+const DESCENDANTS: usize = 5;
+
+// `slot` is the next node whose range comes.
 #[derive(Clone, Copy)]
 pub struct Cursor {
     pub stage: u32,
@@ -24,13 +35,7 @@ pub struct Cursor {
     pub stop: usize,
 }
 
-#[derive(Clone, Copy)]
-pub enum Jump {
-    To(Cursor),
-    Done,
-}
-
-// The range of the node in a slot; `word` is where its row has it: 3 for children, 5 for descendants.
+// The range of the node in a slot; `word` is where its row has it.
 fn range_at(program: &[u32], nodes: &[u16], word: usize, stage: u32, slot: usize) -> Cursor
     requires { (word < 8) × (slot < 2 ^ 64 - 1) }
     ensures { result ≡ range_at program.now nodes.now word stage slot }
@@ -52,7 +57,7 @@ impl Cursor {
         ensures { result ≡ first_cursor slot roots }
     {
         Cursor {
-            stage: 0,
+            stage: AT_CHILDREN,
             slot,
             at: 0,
             stop: roots,
@@ -63,41 +68,35 @@ impl Cursor {
     pub fn next(self) -> Cursor
         ensures { result ≡ after_cursor self }
     {
-        let stage = self.stage;
-        let slot = self.slot;
-        let at = self.at;
-        let stop = self.stop;
-        if at < stop {
-            return Cursor {
-                stage,
-                slot,
-                at: at + 1,
-                stop,
-            };
+        if self.at < self.stop {
+            Cursor {
+                at: self.at + 1,
+                ..self
+            }
+        } else {
+            self
         }
-        self
     }
 
     // The range after the one that it stands in: child ranges first, then descendant ranges.
-    pub fn jump(self, program: &[u32], nodes: &[u16], ranges: Ranges) -> Jump
+    pub fn jump(self, program: &[u32], nodes: &[u16], ranges: Ranges) -> Option<Cursor>
         ensures { result ≡ jump_of program.now nodes.now ranges self }
     {
         let slot = self.slot;
-        if self.stage == 0 {
+        if self.stage == AT_CHILDREN {
             if slot < ranges.parents_top {
-                return Jump::To(range_at(program, nodes, 3, 0, slot));
+                return Some(range_at(program, nodes, CHILDREN, AT_CHILDREN, slot));
             }
-            let from = ranges.ancestors_from;
-            return Jump::To(Cursor {
-                stage: 1,
-                slot: from,
+            return Some(Cursor {
+                stage: AT_DESCENDANTS,
+                slot: ranges.ancestors_from,
                 at: 0,
                 stop: 0,
             });
         }
         if slot < ranges.ancestors_top {
-            return Jump::To(range_at(program, nodes, 5, 1, slot));
+            return Some(range_at(program, nodes, DESCENDANTS, AT_DESCENDANTS, slot));
         }
-        Jump::Done
+        None
     }
 }

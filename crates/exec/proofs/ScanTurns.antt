@@ -10,8 +10,8 @@ use Rattle.cells.specs.Stretches.{written}
 use Rattle.rules.specs.Attributes.{Attribute}
 use Rattle.cursors.specs.declared.Cursor.{Cursor}
 use Rattle.cursors.specs.declared.Ranges.{Ranges}
-use Rattle.exec.specs.declared.scan.Live.{Live}
-use Rattle.cursors.specs.Cursors.{cursor_of, after_cursor, ats}
+use Rattle.std.specs.Prelude.{Option, Some, None}
+use Rattle.cursors.specs.Cursors.{after_cursor, ats}
 use Rattle.instructions.specs.Instructions.{key_fits, tag_tests_pass, tag_passes, attribute_passes, asks}
 use Rattle.exec.specs.Scans.{keep, Sought, over, stopped, with_found, seek, found_in, answer_from, live, tag_scan, all_pass, attribute_scan}
 use Rattle.candidates.specs.Candidates.{from_keyed}
@@ -48,13 +48,13 @@ module _ (sheet program nodes : List ℕ) (ranges : Ranges) (key : ℕ) (c : Cur
     pub below : d.at < 2 ^ 16
     pub less : more < left
 
-  pub reached-at : (r : Live) (d : Cursor) (more rest : ℕ) → Within sheet program nodes ranges key c left bytes r → r ≡ Live.At d more rest → At d more rest
+  pub reached-at : (r : Option (Cursor × ℕ × ℕ)) (d : Cursor) (more rest : ℕ) → Within sheet program nodes ranges key c left bytes r → r ≡ Some (d, more, rest) → At d more rest
   unfolding Within
   reached-at r d more rest h e =
-      let g : Within sheet program nodes ranges key c left bytes (Live.At d more rest) = subst (Within sheet program nodes ranges key c left bytes) e h in
+      let g : Within sheet program nodes ranges key c left bytes (Some (d, more, rest)) = subst (Within sheet program nodes ranges key c left bytes) e h in
       record { list = g.0; fits = g.1.0; below = g.1.1.0; less = g.1.1.1 }
 
-  pub reached-over : (r : Live) → Within sheet program nodes ranges key c left bytes r → r ≡ Live.Over → from_keyed program key (live sheet program nodes ranges key c left bytes) ≡ []
+  pub reached-over : (r : Option (Cursor × ℕ × ℕ)) → Within sheet program nodes ranges key c left bytes r → r ≡ None → from_keyed program key (live sheet program nodes ranges key c left bytes) ≡ []
   unfolding Within
   reached-over r h e = subst (Within sheet program nodes ranges key c left bytes) e h
 
@@ -93,8 +93,8 @@ module _ (sheet program nodes : List ℕ) (ranges : Ranges) (name : List ℕ) (k
 
 answer-too : (count a : ℕ) (t : Sought) → answer_from count (with_found a t) ≡ answer_from (count + 1) t
 unfolding answer_from with_found
-answer-too count a (over found) = let e : count + length (a ∷ found) ≡ count + 1 + length found = omega arith in ap (λ (n : ℕ). record { count = n; stuck = false; cursor = cursor_of 0 0 0 0 }) e
-answer-too count a (stopped found c) = let e : count + length (a ∷ found) ≡ count + 1 + length found = omega arith in ap (λ (n : ℕ). record { count = n; stuck = true; cursor = c }) e
+answer-too count a (over found) = let e : count + length (a ∷ found) ≡ count + 1 + length found = omega arith in ap (λ (n : ℕ). record { count = n; stopped_at = None }) e
+answer-too count a (stopped found c) = let e : count + length (a ∷ found) ≡ count + 1 + length found = omega arith in ap (λ (n : ℕ). record { count = n; stopped_at = Some c }) e
 
 written-too : (found : List ℕ) (count a : ℕ) (t : Sought) → written found count (found_in (with_found a t)) ≡ written (set found count a) (count + 1) (found_in t)
 unfolding written found_in with_found
@@ -112,13 +112,13 @@ module _ (found₀ : List ℕ) (whole : Sought) (found : List ℕ) (count : ℕ)
   pub goes-found : (a : ℕ) (t : Sought) (last : List ℕ) → s ≡ with_found a t → last ≡ set found count a → Going found₀ whole last (count + 1) t
   goes-found a t last e f = (g.0 ∙ ap (answer_from count) e ∙ answer-too count a t, g.1 ∙ ap (λ x. written found count (found_in x)) e ∙ written-too found count a t ∙ (λ i. written (sym f i) (count + 1) (found_in t)))
 
-  pub goes-out : s ≡ over [] → (record { count = count; stuck = false; cursor = cursor_of 0 0 0 0 } ≡ answer_from 0 whole) × (found ≡ written found₀ 0 (found_in whole))
+  pub goes-out : s ≡ over [] → (record { count = count; stopped_at = None } ≡ answer_from 0 whole) × (found ≡ written found₀ 0 (found_in whole))
   unfolding written found_in answer_from
-  goes-out e = (sym (g.0 ∙ ap (answer_from count) e ∙ ap (λ (n : ℕ). record { count = n; stuck = false; cursor = cursor_of 0 0 0 0 }) (add-zero count)), sym (g.1 ∙ ap (λ x. written found count (found_in x)) e))
+  goes-out e = (sym (g.0 ∙ ap (answer_from count) e ∙ ap (λ (n : ℕ). record { count = n; stopped_at = None }) (add-zero count)), sym (g.1 ∙ ap (λ x. written found count (found_in x)) e))
 
-  pub goes-stuck : (d : Cursor) → s ≡ stopped [] d → (record { count = count; stuck = true; cursor = d } ≡ answer_from 0 whole) × (found ≡ written found₀ 0 (found_in whole))
+  pub goes-stuck : (d : Cursor) → s ≡ stopped [] d → (record { count = count; stopped_at = Some d } ≡ answer_from 0 whole) × (found ≡ written found₀ 0 (found_in whole))
   unfolding written found_in answer_from
-  goes-stuck d e = (sym (g.0 ∙ ap (answer_from count) e ∙ ap (λ (n : ℕ). record { count = n; stuck = true; cursor = d }) (add-zero count)), sym (g.1 ∙ ap (λ x. written found count (found_in x)) e))
+  goes-stuck d e = (sym (g.0 ∙ ap (answer_from count) e ∙ ap (λ (n : ℕ). record { count = n; stopped_at = Some d }) (add-zero count)), sym (g.1 ∙ ap (λ x. written found count (found_in x)) e))
 
 -- ---- the scan with attributes
 

@@ -1,5 +1,5 @@
 -- The budget of bytes: what the search for the next instruction leaves of it.
-use mathlib.Core.Path.{◌≡◌, refl, sym, ◌∙◌, ap, subst}
+use mathlib.Core.Path.{◌≡◌, refl, ◌∙◌, ap, subst}
 use mathlib.Core.Bool.{Bool, true, false, cond}
 use mathlib.Core.List.{List, [], ◌∷◌}
 use Prim.Native.Nat.{ℕ, ◌+◌, ◌-◌, ◌<◌, ◌≤◌, ◌^◌}
@@ -10,8 +10,7 @@ use lib.Dec.{ltb}
 use lib.ListN.{length, take}
 use Rattle.cursors.specs.declared.Cursor.{Cursor}
 use Rattle.cursors.specs.declared.Ranges.{Ranges}
-use Rattle.candidates.specs.declared.Candidate.{Candidate}
-use Rattle.exec.specs.declared.scan.Live.{Live}
+use Rattle.std.specs.Prelude.{Option, Some, None}
 use Rattle.instructions.specs.Instructions.{row_word, key_fits, tests_end, tag_count, attribute_count}
 use Rattle.cursors.specs.Cursors.{after_cursor, rest}
 use Rattle.exec.specs.Scans.{tests_taken, within_tests, live}
@@ -78,13 +77,13 @@ module _ (sheet program : List ℕ) (key : ℕ) where
 
 -- ---- the answer of the search
 
-module _ (program nodes : List ℕ) (ranges : Ranges) (key : ℕ) (from : Cursor) (budget : ℕ) (r : Candidate) (reached : Reached program nodes ranges key from budget r) where
-  pub over-within : (sheet : List ℕ) (bytes : ℕ) → r ≡ Candidate.Over → Within sheet program nodes ranges key from budget bytes Live.Over
+module _ (program nodes : List ℕ) (ranges : Ranges) (key : ℕ) (from : Cursor) (budget : ℕ) (r : Option (Cursor × ℕ)) (reached : Reached program nodes ranges key from budget r) where
+  pub over-within : (sheet : List ℕ) (bytes : ℕ) → r ≡ None → Within sheet program nodes ranges key from budget bytes None
   unfolding Reached Within live
   over-within sheet bytes e = none_within sheet program key bytes (take budget (rest program nodes ranges from)) (subst (Reached program nodes ranges key from budget) e reached)
 
-  module _ (d : Cursor) (left : ℕ) (e : r ≡ Candidate.At d left) where
-    at : Reached program nodes ranges key from budget (Candidate.At d left)
+  module _ (d : Cursor) (left : ℕ) (e : r ≡ Some (d, left)) where
+    at : Reached program nodes ranges key from budget (Some (d, left))
     at = subst (Reached program nodes ranges key from budget) e reached
 
     pub at-below : d.at < 2 ^ 16
@@ -96,10 +95,10 @@ module _ (program nodes : List ℕ) (ranges : Ranges) (key : ℕ) (from : Cursor
       unfolding Reached live
       found = rw asked (first-within sheet program key bytes (take budget (rest program nodes ranges from)) d (take left (rest program nodes ranges (after_cursor d))) at.0 at.1.0)
 
-      pub past-within : bytes < taken → Within sheet program nodes ranges key from budget bytes Live.Over
+      pub past-within : bytes < taken → Within sheet program nodes ranges key from budget bytes None
       unfolding Within
       past-within h = found ∙ rw (lt-ltb bytes taken h)
 
-      pub at-within : taken ≤ bytes → Within sheet program nodes ranges key from budget bytes (Live.At d left (bytes - taken))
+      pub at-within : taken ≤ bytes → Within sheet program nodes ranges key from budget bytes (Some (d, left, bytes - taken))
       unfolding Within Reached
       at-within h = (found ∙ rw (le-ltb bytes taken h), at.1)

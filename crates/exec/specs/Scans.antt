@@ -1,11 +1,11 @@
 -- Scans over the live instructions (01, section 4: when a tag waits, and what it matches).
-use Rattle.std.specs.Prelude.{Bool, true, false, cond, ◌&&◌, List, [], ◌∷◌, ℕ, ◌+◌, ◌-◌, ltb, length, take}
+use Rattle.std.specs.Prelude.{Bool, cond, ◌&&◌, List, [], ◌∷◌, ℕ, ◌+◌, ◌-◌, ltb, length, take, Some, None}
 use Rattle.rules.specs.Attributes.{Attribute}
 use Rattle.cursors.specs.declared.Cursor.{Cursor}
 use Rattle.cursors.specs.declared.Ranges.{Ranges}
 use Rattle.exec.specs.declared.scan.Scanned.{Scanned}
 use Rattle.instructions.specs.Instructions.{row_word, key_fits, tests_end, tag_count, attribute_count, tag_passes, attribute_passes, asks}
-use Rattle.cursors.specs.Cursors.{cursor_of, rest, ats}
+use Rattle.cursors.specs.Cursors.{rest, ats}
 
 -- The members that pass a test, in their order.
 unfoldable pub keep : (ℕ → Bool) → List ℕ → List ℕ
@@ -34,8 +34,8 @@ found_in (stopped found c) = found
 
 -- The answer, if so many were found before.
 unfoldable pub answer_from : ℕ → Sought → Scanned
-answer_from count (over found) = record { count = count + length found; stuck = false; cursor = cursor_of 0 0 0 0 }
-answer_from count (stopped found c) = record { count = count + length found; stuck = true; cursor = c }
+answer_from count (over found) = record { count = count + length found; stopped_at = None }
+answer_from count (stopped found c) = record { count = count + length found; stopped_at = Some c }
 
 -- ---- What one call may go over, whatever the stores hold.
 

@@ -5,27 +5,21 @@ ghost use Rattle.rules.specs.Attributes.{attributes_of};
 ghost use Rattle.exec.specs.Scans.{tag_scan, answer_from, found_in, attribute_scan};
 ghost use Rattle.exec.specs.Searching.{Within};
 
-use candidates::{Candidate, next_candidate};
+use candidates::next_candidate;
 use cells::put16;
 use cursors::{Cursor, Ranges};
 use instructions::instruction::{asks_attributes, attributes_pass, tag_tests_pass, tests_bytes};
+use node_tests::Tag;
+use node_tests::attribute_matcher::AttributeMatcher;
 
-// How many instructions matched, and whether one asks for attributes: the cursor stands on it, or is all 0.
+// How many instructions matched, and the cursor on the one that asks for attributes, if the scan stopped there.
 #[derive(Clone, Copy)]
 pub struct Scanned {
     pub count: usize,
-    pub stuck: bool,
-    pub cursor: Cursor,
+    pub stopped_at: Option<Cursor>,
 }
 
-// The cursor on the next instruction whose key fits, with the budget and the bytes of tests that are left after it.
-#[derive(Drop)]
-enum Live {
-    At(Cursor, usize, usize),
-    Over,
-}
-
-// The next instruction whose key fits, if its tests are within the budget of bytes too.
+// The cursor on the next instruction whose key fits, if its tests are within the budget of bytes too, with the budget and the bytes of tests that are left after it.
 fn next_live(
     sheet: &[u8],
     program: &[u32],
@@ -35,119 +29,95 @@ fn next_live(
     from: Cursor,
     budget: usize,
     bytes: usize,
-) -> Live
+) -> Option<(Cursor, usize, usize)>
     ensures { Within sheet.now program.now nodes.now ranges key from budget bytes result }
 {
-    match next_candidate(program, nodes, ranges, key, from, budget) {
-        Candidate::At(d, left) => {
-            let taken = tests_bytes(sheet, program, d.at as u16);
-            if bytes < taken {
-                return Live::Over;
-            }
-            Live::At(d, left, bytes - taken)
-        }
-        Candidate::Over => Live::Over,
+    let (d, left) = next_candidate(program, nodes, ranges, key, from, budget)?;
+    let taken = tests_bytes(sheet, program, d.at as u16);
+    if bytes < taken {
+        return None;
     }
+    Some((d, left, bytes - taken))
 }
 
 // The instructions that match by the tag alone, up to the first that asks for attributes; the found ones are written from the store's start on.
-pub fn scan_tag(
+pub fn scan_tag<'n>(
     sheet: &[u8],
     program: &[u32],
     nodes: &[u16],
     ranges: Ranges,
-    name: &[u8],
+    tag: Tag<'n>,
     key: u32,
-    child: u32,
-    of_type: u32,
     from: Cursor,
     budget: u16,
     found: &mut [u16],
 ) -> Scanned
-    ensures { (result ≡ answer_from 0 (tag_scan sheet.now program.now nodes.now ranges name.now key child of_type from budget (length sheet.now)))
-        × (found.new ≡ written found.old 0 (found_in (tag_scan sheet.now program.now nodes.now ranges name.now key child of_type from budget (length sheet.now)))) }
+    ensures { (result ≡ answer_from 0 (tag_scan sheet.now program.now nodes.now ranges tag.entry.name.now key tag.entry.child tag.entry.of_type from budget (length sheet.now)))
+        × (found.new ≡ written found.old 0 (found_in (tag_scan sheet.now program.now nodes.now ranges tag.entry.name.now key tag.entry.child tag.entry.of_type from budget (length sheet.now)))) }
 {
     let mut c = from;
     let mut left = budget as usize;
     let mut bytes = sheet.len();
     let mut count = 0;
-    loop {
-        match next_live(sheet, program, nodes, ranges, key, c, left, bytes) {
-            Live::At(d, more, rest) => {
-                let a = d.at as u16;
-                c = d.next();
-                left = more;
-                bytes = rest;
-                if tag_tests_pass(sheet, program, a, name, child, of_type) {
-                    if asks_attributes(program, a) {
-                        return Scanned {
-                            count,
-                            stuck: true,
-                            cursor: d,
-                        };
-                    }
-                    put16(found, count, a);
-                    count += 1;
-                }
-            }
-            Live::Over => {
+    while let Some((d, more, rest)) = next_live(
+        sheet, program, nodes, ranges, key, c, left, bytes,
+    ) {
+        let a = d.at as u16;
+        c = d.next();
+        left = more;
+        bytes = rest;
+        if tag_tests_pass(sheet, program, a, tag) {
+            if asks_attributes(program, a) {
                 return Scanned {
                     count,
-                    stuck: false,
-                    cursor: Cursor {
-                        stage: 0,
-                        slot: 0,
-                        at: 0,
-                        stop: 0,
-                    },
+                    stopped_at: Some(d),
                 };
             }
+            put16(found, count, a);
+            count += 1;
         }
+    }
+    Scanned {
+        count,
+        stopped_at: None,
     }
 }
 
 // All instructions that match with the attributes at hand, from the cursor on; they are written after the `count` found before, and the answer counts both.
-pub fn scan_attributes(
+// Kept as it is: it goes on where `scan_tag` stops and answers with a number alone, so one scan for both would take a switch and give an answer that one of them never gives.
+pub fn scan_attributes<'n, 'i, 'o>(
     sheet: &[u8],
     program: &[u32],
     nodes: &[u16],
     ranges: Ranges,
-    name: &[u8],
+    tag: Tag<'n>,
     key: u32,
-    child: u32,
-    of_type: u32,
-    input: &[u8],
-    outlines: &[u32],
-    html: bool,
+    attributes: AttributeMatcher<'i, 'o>,
     from: Cursor,
     budget: u16,
     count: u16,
     found: &mut [u16],
 ) -> usize
-    ensures { (result ≡ count + length (attribute_scan sheet.now program.now nodes.now ranges name.now key child of_type html (attributes_of input.now outlines.now) from budget (length sheet.now)))
-        × (found.new ≡ written found.old count (attribute_scan sheet.now program.now nodes.now ranges name.now key child of_type html (attributes_of input.now outlines.now) from budget (length sheet.now))) }
+    ensures { (result ≡ count + length (attribute_scan sheet.now program.now nodes.now ranges tag.entry.name.now key tag.entry.child tag.entry.of_type attributes.entry.html (attributes_of attributes.entry.input.now attributes.entry.outlines.now) from budget (length sheet.now)))
+        × (found.new ≡ written found.old count (attribute_scan sheet.now program.now nodes.now ranges tag.entry.name.now key tag.entry.child tag.entry.of_type attributes.entry.html (attributes_of attributes.entry.input.now attributes.entry.outlines.now) from budget (length sheet.now))) }
 {
     let mut c = from;
     let mut left = budget as usize;
     let mut bytes = sheet.len();
     let mut all = count as usize;
-    loop {
-        match next_live(sheet, program, nodes, ranges, key, c, left, bytes) {
-            Live::At(d, more, rest) => {
-                let a = d.at as u16;
-                c = d.next();
-                left = more;
-                bytes = rest;
-                if tag_tests_pass(sheet, program, a, name, child, of_type) {
-                    if attributes_pass(sheet, program, a, input, outlines, html) {
-                        put16(found, all, a);
-                        all += 1;
-                    }
-                }
-            }
-            Live::Over => {
-                return all;
-            }
+    while let Some((d, more, rest)) = next_live(
+        sheet, program, nodes, ranges, key, c, left, bytes,
+    ) {
+        let a = d.at as u16;
+        c = d.next();
+        left = more;
+        bytes = rest;
+        if tag_tests_pass(sheet, program, a, tag)
+            && attributes_pass(sheet, program, a, attributes)
+        {
+            put16(found, all, a);
+            all += 1;
         }
     }
+    all
 }

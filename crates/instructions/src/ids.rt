@@ -2,17 +2,15 @@
 ghost use Rattle.std.specs.Prelude.{◌≡◌};
 ghost use Rattle.instructions.specs.FoundIds.{with_ids, with_ids_of};
 
-use cells::{at8, at16, at32, part_of};
+use cells::{at8, at32, part_of};
 use id_sets::add_id;
 
 // The set with the listed ids.
 fn add_ids(listed: &[u8], ids: &mut [u64])
     ensures { ids.new ≡ with_ids ids.old listed.now }
 {
-    let mut i = 0;
-    while i < listed.len() {
-        add_id(ids, at8(listed, i));
-        i += 1;
+    for id in listed {
+        add_id(ids, *id as usize);
     }
 }
 
@@ -20,11 +18,9 @@ fn add_ids(listed: &[u8], ids: &mut [u64])
 pub fn gather_ids(sheet: &[u8], program: &[u32], found: &[u16], ids: &mut [u64])
     ensures { ids.new ≡ with_ids_of sheet.now program.now ids.old found.now }
 {
-    let mut i = 0;
-    while i < found.len() {
-        let place = at32(program, at16(found, i) * 8);
+    for a in found {
+        let place = at32(program, *a as usize * 8);
         let count = at8(sheet, place + 2);
         add_ids(part_of(sheet, place + 3, place + 3 + count), ids);
-        i += 1;
     }
 }

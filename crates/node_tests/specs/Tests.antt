@@ -63,12 +63,15 @@ attribute_kind kind body =
     (cond (ltb 25 kind) unencodable
     (comparison (operator_of kind) body)))))
 
+abbrev pub is_negated : List ℕ → Bool
+is_negated bytes = not (eqb (get_or bytes 1 0) 0)
+
 -- A test's bytes after their length: kind, negation, body.
 unfoldable pub read_tag_test : List ℕ → Negatable TagTest
-read_tag_test bytes = record { negated = not (eqb (get_or bytes 1 0) 0); test = tag_kind (get_or bytes 0 0) (part bytes 2 (length bytes)) }
+read_tag_test bytes = record { negated = is_negated bytes; test = tag_kind (get_or bytes 0 0) (part bytes 2 (length bytes)) }
 
 unfoldable pub read_attribute_test : List ℕ → Negatable AttributeTest
-read_attribute_test bytes = record { negated = not (eqb (get_or bytes 1 0) 0); test = attribute_kind (get_or bytes 0 0) (part bytes 2 (length bytes)) }
+read_attribute_test bytes = record { negated = is_negated bytes; test = attribute_kind (get_or bytes 0 0) (part bytes 2 (length bytes)) }
 
 -- ---- when they hold
 

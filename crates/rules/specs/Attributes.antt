@@ -3,7 +3,6 @@ use Rattle.std.specs.Prelude.{Bool, true, false, cond, ◌&&◌, List, [], ◌�
 use Rattle.std.proofs.Math.Option.{Option, none, some}
 use Rattle.cells.specs.Numbers.{part}
 use Rattle.letters.specs.Bytes.{same_bytes}
-use Rattle.rules.specs.declared.attribute_matcher.Found.{Found}
 
 -- An attribute is its name and its value.
 pub record Attribute : Type 0 where
@@ -42,11 +41,3 @@ lookup wanted (a ∷ as') = cond (same_bytes true false a.name wanted) (some a.v
 unfoldable pub is_there : Option (List ℕ) → Bool
 is_there none = false
 is_there (some value) = true
-
--- The same on outlines: where the value starts and ends.
-unfoldable pub find_in : List ℕ → List ℕ → List ℕ → Found
-find_in input wanted [] = Found.Nothing
-find_in input wanted (a ∷ []) = Found.Nothing
-find_in input wanted (a ∷ (b ∷ [])) = Found.Nothing
-find_in input wanted (a ∷ (b ∷ (c ∷ []))) = Found.Nothing
-find_in input wanted (a ∷ (b ∷ (c ∷ (d ∷ more)))) = cond (same_bytes true false (part input a b) wanted) (Found.At c d) (find_in input wanted more)

@@ -3,3 +3,4 @@ pub mod Standard
 pub mod Departures
 pub mod Lowered
 pub mod AttributeLaws
+pub mod Places

@@ -10,6 +10,7 @@ ghost use Rattle.starts.specs.Starts.{start_call};
 
 use accepting::{Reply, refused};
 use course::{begin_scan, kind_of};
+use cursors::Cursor;
 use names::is_void;
 use shapes::{is_esi_on, state_refusal};
 use tags::start_found;
@@ -35,7 +36,8 @@ fn start_lowered(
     let mut found = [0; 1024];
     let scanned = begin_scan(sheet, program, rows, names, nodes, name, kind, &mut found);
     let n = scanned.count;
-    let cursor = scanned.cursor;
+    let stuck = scanned.stopped_at.is_some();
+    let cursor = scanned.stopped_at.unwrap_or(Cursor::first(0, 0));
     start_found(
         sheet,
         program,
@@ -46,7 +48,7 @@ fn start_lowered(
         name,
         kind,
         &found[0..n],
-        scanned.stuck,
+        stuck,
         cursor,
     )
 }

@@ -5,6 +5,6 @@ pub returns-then-is_html : goal.returns-then-is_html
 unfolding has_content
 returns-then-is_html c = rw (← c.is_html.ensures, c.if-is_html.true)
 
-pub returns : goal.returns
+pub returns-else-is_html : goal.returns-else-is_html
 unfolding has_content
-returns c = rw (← c.is_html.ensures, c.if-is_html.false)
+returns-else-is_html c = rw (← c.is_html.ensures, c.if-is_html.false)

@@ -7,6 +7,6 @@ pub returns-then-counts_types : goal.returns-then-counts_types
 unfolding type_position
 returns-then-counts_types c = rw (← c.counts_types.ensures, c.if-counts_types.true) (c.inc.ensures ∙ ap one_more c.times.ensures)
 
-pub returns : goal.returns
+pub returns-else-counts_types : goal.returns-else-counts_types
 unfolding type_position
-returns c = rw (← c.counts_types.ensures, c.if-counts_types.false)
+returns-else-counts_types c = rw (← c.counts_types.ensures, c.if-counts_types.false)

@@ -1,28 +1,7 @@
-use borrow.Author.Tests.{eq-eqb, ne_eqb}
 use Rattle.node_tests.specs.Tests.{tag_test_holds, read_tag_test, opposite}
-use borrow.Author.Rules.{rules}
+use Rattle.node_tests.proofs.TestLaws.{differs}
 use Rattle.node_tests.proofs.tag_test.Goals as goal
-
-pub get8-requires : goal.get8-requires
-unfolding tag_test_holds read_tag_test opposite
-get8-requires c = search rules
-
-pub part_of-requires : goal.part_of-requires
-unfolding tag_test_holds read_tag_test opposite
-part_of-requires c = search rules
-
-pub tag_kind-holds-requires : goal.tag_kind-holds-requires
-unfolding tag_test_holds read_tag_test opposite
-tag_kind-holds-requires c = search rules
-
-pub get8-requires-2 : goal.get8-requires-2
-unfolding tag_test_holds read_tag_test opposite
-get8-requires-2 c = search rules
-
-pub returns-then-get8-eq0 : goal.returns-then-get8-eq0
-unfolding tag_test_holds read_tag_test opposite
-returns-then-get8-eq0 c = rw (← c.get8-2.ensures, eq-eqb _ _ c.if-get8-eq0.true, ← c.get8.ensures, ← c.part_of.ensures) c.tag_kind-holds.ensures
 
 pub returns : goal.returns
 unfolding tag_test_holds read_tag_test opposite
-returns c = rw (← c.get8-2.ensures, ne_eqb _ _ c.if-get8-eq0.false, ← c.get8.ensures, ← c.part_of.ensures, ← c.tag_kind-holds.ensures)
+returns c = rw (← c.is_negated.ensures, ← c.part_of-body.ensures, ← c.get8.ensures, ← c.read.ensures, ← c.holds.ensures) (differs _ _)

@@ -2,10 +2,10 @@ use borrow.Author.Tests.{lt-ltb, le-ltb}
 use Rattle.cursors.specs.Cursors.{after_cursor}
 use Rattle.cursors.proofs.Cursor.next.Goals as goal
 
-pub returns-then-at-stop : goal.returns-then-at-stop
+pub returns-then-self : goal.returns-then-self
 unfolding after_cursor
-returns-then-at-stop c = simp (lt-ltb _ _ c.if-at-stop.true)
+returns-then-self c = simp (lt-ltb _ _ c.if-self.true)
 
-pub returns : goal.returns
+pub returns-else-self : goal.returns-else-self
 unfolding after_cursor
-returns c = simp (le-ltb _ _ c.if-at-stop.false)
+returns-else-self c = simp (le-ltb _ _ c.if-self.false)

@@ -1,13 +1,9 @@
-use mathlib.Core.Path.{refl, sym, ◌∙◌}
-use native.Mathlib.Omega.{arith}
+use Rattle.std.proofs.Common.{◌∙◌, arith}
 use Rattle.instructions.proofs.IdTurns.{ids-none, ids_more}
 use Rattle.instructions.proofs.ids.add_ids.Goals as goal
 
-pub loop-i-init : goal.loop-i-init
-loop-i-init c = (refl, (omega arith, refl))
-
-pub loop-i-preserved : goal.loop-i-preserved
-loop-i-preserved c = (omega arith, (omega arith, c.loop-i.invariant.1.1 ∙ ids_more _ _ c.loop-i.i _ _ c.at8.ensures.0 c.add_id.ensures (omega arith)))
+pub loop-id-preserved : goal.loop-id-preserved
+loop-id-preserved c = record { size = omega arith; same = ids_more _ _ c.loop-id.id-index _ c.add_id.ensures c.loop-id-test.true ∙ c.loop-id.invariant.same }
 
 pub returns : goal.returns
-returns c = sym (c.loop-i.invariant.1.1 ∙ ids-none _ _ c.loop-i.i (omega arith))
+returns c = ids-none _ _ c.loop-id.id-index c.loop-id-test.false ∙ c.loop-id.invariant.same

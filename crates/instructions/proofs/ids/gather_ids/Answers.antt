@@ -1,13 +1,9 @@
-use mathlib.Core.Path.{refl, sym, ◌∙◌}
-use native.Mathlib.Omega.{arith}
+use Rattle.std.proofs.Common.{◌∙◌, arith}
 use Rattle.instructions.proofs.IdTurns.{found_none, found-more}
 use Rattle.instructions.proofs.ids.gather_ids.Goals as goal
 
-pub loop-i-init : goal.loop-i-init
-loop-i-init c = (refl, (omega arith, refl))
-
-pub loop-i-preserved : goal.loop-i-preserved
-loop-i-preserved c = (omega arith, (omega arith, c.loop-i.invariant.1.1 ∙ found-more _ _ _ _ c.loop-i.i _ _ _ _ _ c.at16.ensures.0 c.at32-place.ensures.0 c.at8-count.ensures.0 c.part_of.ensures c.add_ids.ensures (omega arith)))
+pub loop-a-preserved : goal.loop-a-preserved
+loop-a-preserved c = record { size = omega arith; same = found-more _ _ _ _ c.loop-a.a-index _ _ _ _ c.at32-place.ensures.0 c.at8-count.ensures.0 c.part_of.ensures c.add_ids.ensures c.loop-a-test.true ∙ c.loop-a.invariant.same }
 
 pub returns : goal.returns
-returns c = sym (c.loop-i.invariant.1.1 ∙ found_none _ _ _ _ c.loop-i.i (omega arith))
+returns c = found_none _ _ _ _ c.loop-a.a-index c.loop-a-test.false ∙ c.loop-a.invariant.same

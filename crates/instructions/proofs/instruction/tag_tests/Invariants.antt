@@ -1,10 +1,6 @@
-use mathlib.Core.Path.{◌≡◌}
-use Prim.Native.Nat.{◌+◌, ◌*◌, ◌≤◌}
+use Rattle.std.proofs.Common.{◌≡◌, ◌+◌, ◌-◌, ◌*◌, ◌≤◌}
 use Rattle.instructions.specs.Instructions.{tag_tests_hold}
 use Rattle.instructions.proofs.instruction.tag_tests.Given as goal
 
-abbrev pub invariant-loop-left : goal.invariant-loop-left
-invariant-loop-left l = (l.at + l.left * 65537 ≤ l.from + l.count * 65537) × (tag_tests_hold l.sheet l.name l.child l.of_type l.count l.from ≡ tag_tests_hold l.sheet l.name l.child l.of_type l.left l.at)
-
-abbrev pub decreases-loop-left : goal.decreases-loop-left
-decreases-loop-left l = l.left
+abbrev pub invariant-loop-done : goal.invariant-loop-done
+invariant-loop-done l = record { room : l.at + (l.count - l._done) * 65537 ≤ l.from + l.count * 65537; same : tag_tests_hold l.sheet l.tag.name.now l.tag.child l.tag.of_type (l.count - l._done) l.at ≡ tag_tests_hold l.sheet l.tag.name.now l.tag.child l.tag.of_type l.count l.from }

@@ -1,5 +1,7 @@
-use Rattle.instructions.proofs.TestTurns.{tag-row}
+use Rattle.std.proofs.Common.{◌∙◌}
+use Rattle.instructions.specs.Instructions.{tag_tests_pass}
 use Rattle.instructions.proofs.instruction.tag_tests_pass.Goals as goal
 
 pub returns : goal.returns
-returns c = tag-row _ _ _ _ _ c.at32.ensures.0 c.at32-2.ensures.0 _ _ _ _ c.tag_tests.ensures
+unfolding tag_tests_pass
+returns c = c.tag_tests.ensures ∙ rw (c.row_of-row.ensures.tag_count.0, c.row_of-row.ensures.tests.0)

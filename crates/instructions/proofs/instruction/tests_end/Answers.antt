@@ -1,13 +1,19 @@
-use mathlib.Core.Path.{refl, sym, ◌∙◌}
-use native.Mathlib.Omega.{arith}
+use Rattle.std.proofs.Common.{◌≡◌, ◌∙◌, ◌+◌, ◌-◌, arith}
 use Rattle.instructions.proofs.TestTurns.{end_none, end_more}
 use Rattle.instructions.proofs.instruction.tests_end.Goals as goal
 
-pub loop-left-init : goal.loop-left-init
-loop-left-init c = (omega arith, (omega arith, refl))
+pub test_end-at-requires : goal.test_end-at-requires
+test_end-at-requires c = let r = c.loop-done.invariant.room in omega (arith, r)
 
-pub loop-left-preserved : goal.loop-left-preserved
-loop-left-preserved c = (omega arith, (omega arith, c.loop-left.invariant.1.1 ∙ end_more _ _ _ _ c.u16_at.ensures.0 (omega arith)))
+pub loop-done-init : goal.loop-done-init
+loop-done-init c = let e : c.args.count - 0 ≡ c.args.count = omega arith in record { low = omega arith; room = omega arith; same = rw e }
+
+pub loop-done-preserved : goal.loop-done-preserved
+loop-done-preserved c = let i = c.loop-done.invariant in record {
+  low = let z = i.low in omega (arith, z);
+  room = let z = i.room in omega (arith, z);
+  same = end_more _ _ _ (c.args.count - (c.loop-done._done + 1)) _ c.test_end-at.ensures.0 (omega arith) ∙ i.same;
+}
 
 pub returns : goal.returns
-returns c = (sym (c.loop-left.invariant.1.1 ∙ end_none _ _ _ (omega arith)), (omega arith, omega arith))
+returns c = let i = c.loop-done.invariant in let z = i.room in let l = i.low in (end_none _ _ _ (omega arith) ∙ i.same, (omega (arith, l), omega (arith, z)))

@@ -1,19 +1,12 @@
-use mathlib.Core.Path.{refl, sym, ◌∙◌}
-use native.Mathlib.Omega.{arith}
-use Rattle.rules.proofs.OutlineTurns.{named, found-short, found-step}
+use Rattle.std.proofs.Common.{◌∙◌}
+use Rattle.rules.proofs.OutlineTurns.{found-here, found-next, short-found}
 use Rattle.rules.proofs.attribute_matcher.find.Goals as goal
 
-pub loop-i-init : goal.loop-i-init
-loop-i-init c = (omega arith, refl)
-
-pub returns-then-outlines-i-lt4 : goal.returns-then-outlines-i-lt4
-returns-then-outlines-i-lt4 c = sym (c.loop-i.invariant.1 ∙ found-short _ _ _ c.loop-i.i c.if-outlines-i-lt4.true)
-
 pub returns-then-same : goal.returns-then-same
-returns-then-same c = sym (c.loop-i.invariant.1 ∙ found-step _ _ _ c.loop-i.i (omega arith) ∙ rw (named _ _ _ _ _ _ _ _ _ c.at32.ensures c.at32-in-loop-i.ensures c.part_of-candidate.ensures c.same.ensures ∙ c.if-same.true, c.at32-then-same.ensures.0, c.at32-then-same-2.ensures.0))
+returns-then-same c = found-here _ _ _ c.loop-rest.rest.now _ _ c.in-len4-up.len_at_least c.part_of-candidate.ensures c.same.ensures c.if-same.true ∙ c.loop-rest.invariant
 
-pub loop-i-preserved : goal.loop-i-preserved
-loop-i-preserved c = (omega arith, c.loop-i.invariant.1 ∙ found-step _ _ _ c.loop-i.i (omega arith) ∙ rw (named _ _ _ _ _ _ _ _ _ c.at32.ensures c.at32-in-loop-i.ensures c.part_of-candidate.ensures c.same.ensures ∙ c.if-same.false))
+pub loop-rest-preserved : goal.loop-rest-preserved
+loop-rest-preserved c = found-next _ _ _ c.loop-rest.rest.now _ _ c.in-len4-up.len_at_least c.part_of-candidate.ensures c.same.ensures c.if-same.false ∙ c.loop-rest.invariant
 
 pub returns : goal.returns
-returns c = sym (c.loop-i.invariant.1 ∙ found-short _ _ _ c.loop-i.i (omega arith))
+returns c = short-found _ _ _ c.in_default.len_below ∙ c.loop-rest.invariant

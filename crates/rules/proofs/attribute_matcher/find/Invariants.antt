@@ -1,12 +1,10 @@
-use mathlib.Core.Path.{◌≡◌}
-use Prim.Native.Nat.{◌-◌, ◌≤◌}
-use lib.ListN.{length, drop}
+use Rattle.std.proofs.Common.{◌≡◌, length}
 use Rattle.letters.specs.Bytes.{fold}
-use Rattle.rules.specs.Attributes.{find_in}
+use Rattle.rules.specs.Places.{find_in}
 use Rattle.rules.proofs.attribute_matcher.find.Given as goal
 
-abbrev pub invariant-loop-i : goal.invariant-loop-i
-invariant-loop-i l = (l.i ≤ length l.outlines) × (find_in l.input (fold l.ignore l.name) l.outlines ≡ find_in l.input (fold l.ignore l.name) (drop l.i l.outlines))
+abbrev pub invariant-loop-rest : goal.invariant-loop-rest
+invariant-loop-rest l = find_in l.input (fold l.ignore l.name) l.rest ≡ find_in l.input (fold l.ignore l.name) l.outlines
 
-abbrev pub decreases-loop-i : goal.decreases-loop-i
-decreases-loop-i l = length l.outlines - l.i
+abbrev pub decreases-loop-rest : goal.decreases-loop-rest
+decreases-loop-rest l = length l.rest

@@ -1,0 +1,7 @@
+use Rattle.node_tests.specs.Tests.{comparison}
+use Rattle.node_tests.specs.Readings.{attribute_test_of}
+use Rattle.node_tests.proofs.attribute_matcher.AttributeTest.comparison.Goals as goal
+
+pub returns : goal.returns
+unfolding comparison attribute_test_of
+returns c = rw (c.get8.ensures, c.part_of.ensures, c.part_of-2.ensures, c.at8-end.ensures.0)
