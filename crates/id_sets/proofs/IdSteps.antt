@@ -13,9 +13,11 @@ use lib.Dec.{eqb, ltb}
 use lib.ListN.{length, get_or, take, drop, set, length-append, drop_of_length-le, take-append-drop}
 use lib.Pow.{pow_mono, shl_exact, shr_le, shr-shr}
 use lib.Seq.{drop-cons, drop-set-lt, take-suc-set, take_all}
-use Rattle.id_sets.specs.Ids.{bit, has_id, ids_from, ids_of, first_of, with_id, union}
+use Rattle.id_sets.specs.Ids.{bit, has_id, ids_from, first_of, with_id, union}
 use Rattle.id_sets.specs.IdLaws.{member-inside}
 use Rattle.std.specs.Prelude.{None, Some}
+use Rattle.std.specs.List.{sum_by}
+use Rattle.std.proofs.lemmas.List.Sums.{sum_by_more}
 
 -- ---- lists of members
 
@@ -176,13 +178,18 @@ count_past words k n h g =
     let s : ids_from words 0 n ≡ ids_from words 0 (k * 64) ++ ids_from words (0 + k * 64) (n - k * 64) = ap (ids_from words 0) e ∙ ids-split words 0 (k * 64) (n - k * 64) in
     rw (s, ids-past words (0 + k * 64) (n - k * 64) (omega arith), append-nil (ids_from words 0 (k * 64)))
 
-pub count-end : (words : List ℕ) (k : ℕ) → k ≡ min (length words) 1024 → length (ids_from words 0 (k * 64)) ≡ length (ids_of words)
-unfolding ids_of
-count-end words k e = go (ltb (length words) 1024) refl
+-- the ids of the first words are as many as the bits that are set there
+pub sum-ones : (words : List ℕ) → ((i : ℕ) → get_or words i 0 < 2 ^ 64) → (k : ℕ) → sum_by ones (take k words) ≡ length (ids_from words 0 (k * 64))
+unfolding ids_from
+sum-ones words fits zero = refl
+sum-ones words fits (suc k) = go (ltb k (length words)) refl (sum-ones words fits k)
   where
-    go : (b : Bool) → ltb (length words) 1024 ≡ b → length (ids_from words 0 (k * 64)) ≡ length (ids_from words 0 65536)
-    go true q = let l = ltb-true (length words) 1024 q in count_past words k 65536 (omega arith) (omega arith)
-    go false q = let l = ltb-false (length words) 1024 q in let z : k ≡ 1024 = omega arith in rw z
+    go : (b : Bool) → ltb k (length words) ≡ b → sum_by ones (take k words) ≡ length (ids_from words 0 (k * 64)) → sum_by ones (take (suc k) words) ≡ length (ids_from words 0 (suc k * 64))
+    go true q e = let n : suc k ≡ k + 1 = omega arith in rw (n, sum_by_more ones words k 0 (ltb-true k (length words) q)) (counted words k (sum_by ones (take k words)) (fits k) e)
+    go false q e =
+        let l = ltb-false k (length words) q in
+        let t : take (suc k) words ≡ take k words = take_all (suc k) words (omega arith) ∙ sym (take_all k words l) in
+        rw t (e ∙ count_past words k (suc k * 64) l (omega arith))
 
 -- ---- one id more, and unions
 

@@ -51,9 +51,9 @@ pub fn next_id(words: &[u64], from: usize) -> Option<usize>
 pub fn count_ids(words: &[u64]) -> usize
     ensures { result ≡ length (ids_of words.now) }
 {
-    let mut count = 0;
-    for word in &words[..words.len().min(1024)] {
-        count += word.count_ones() as usize;
-    }
-    count
+    words
+        .iter()
+        .take(1024)
+        .map(|word| word.count_ones() as usize)
+        .sum()
 }

@@ -1,25 +1,25 @@
-use mathlib.Core.Path.{refl, ◌∙◌}
-use native.Mathlib.Omega.{arith}
-use Prim.Native.Nat.{ℕ, ◌^◌, ◌≤◌, ◌<◌}
-use lib.Count.{ones, ones-le}
+use Rattle.std.proofs.Common.{rules, tests, arith, ◌∙◌, ◌≤◌, length, take}
+use lib.Count.{ones}
 use lib.ListN.{length-take}
-use Rattle.std.proofs.lemmas.List.{get_or-take}
-use Rattle.id_sets.specs.Ids.{ids_from}
-use Rattle.id_sets.proofs.IdSteps.{counted, count-end}
+use Rattle.std.proofs.lemmas.Iterator.{YieldsList-from_slice, YieldsList-from_take, YieldsList-from_map}
+use Rattle.std.proofs.lemmas.Iterator.Adapters.{fits_from_length, at_most_from_yields_List}
+use Rattle.std.proofs.lemmas.Iterator.Consumers.{YieldsList-at, sum_from_yields_List}
+use Rattle.std.proofs.lemmas.List.Sums.{sum-map}
+use Rattle.id_sets.specs.Ids.{ids_of}
+use Rattle.id_sets.proofs.IdSteps.{sum-ones}
 use Rattle.id_sets.proofs.count_ids.Goals as goal
 
-few : (w : ℕ) → w < 2 ^ 64 → ones w ≤ 64
-few w h = ones-le 64 w h
-
-pub loop-word-init : goal.loop-word-init
-unfolding ids_from
-loop-word-init c = (omega arith, refl)
-
-pub loop-word-preserved : goal.loop-word-preserved
-loop-word-preserved c =
-    let h : c.loop-word.word-index < c.min.result = omega (arith, length-take {A = ℕ}) in
-    let f = (c.type_inv.words c.loop-word.word-index).fits in
-    rw (get_or-take c.min.result c.args.words.now c.loop-word.word-index 0 h) (omega (arith, few _ f), counted _ _ _ f c.loop-word.invariant.1)
+pub sum-requires-clause-fits : goal.sum-requires-clause-fits
+sum-requires-clause-fits c =
+    let most : length (take 1024 c.args.words.now) ≤ 1024 = omega (arith, length-take 1024 c.args.words.now) in
+    fits_from_length _ _ 1024 _
+    (at_most_from_yields_List (YieldsList-at c.map.ensures.source (YieldsList-from_take 1024 (YieldsList-at c.take.ensures.source (YieldsList-from_slice c.args.words.now c.iter.ensures.rest)) c.take.ensures.count)) most)
+    c.map.ensures.closure (omega arith) (λ x r q k. search (rules, tests))
 
 pub returns : goal.returns
-returns c = c.loop-word.invariant.1 ∙ count-end _ c.loop-word.word-index (omega (arith, length-take {A = ℕ}))
+unfolding ids_of
+returns c =
+    sum_from_yields_List c.map.result c.sum.result c.sum.ensures.ran
+    (YieldsList-from_map _ ones (YieldsList-at c.map.ensures.source (YieldsList-from_take 1024 (YieldsList-at c.take.ensures.source (YieldsList-from_slice c.args.words.now c.iter.ensures.rest)) c.take.ensures.count)) c.map.ensures.closure (λ x r q k. search (rules, tests)))
+    ∙ sum-map ones (take 1024 c.args.words.now)
+    ∙ sum-ones c.args.words.now (λ i. (c.type_inv.words i).fits) 1024
