@@ -1,18 +1,19 @@
 //! One record, one line: the machine's calls by what the record says.
 #![tactic(auto)]
 
-ghost use Rattle.std.specs.Prelude.{◌≡◌, ◌+◌, ◌≤◌, length};
+ghost use Rattle.std.specs.Prelude.{◌≡◌, ◌+◌, ◌≤◌, Some, length, IfSome};
 ghost use Rattle.stack.specs.Stores.{stores};
 ghost use Rattle.answers.specs.Answers.{turn_by, outline_room, turn_of};
 ghost use Rattle.attribute_records.specs.AttributeRecords.{Fits};
-ghost use Rattle.replies.specs.Replies.{Within, answered, saying};
+ghost use Rattle.replies.specs.Replies.{answered, saying};
 
 use attribute_records::Record;
 use cells::part_of;
 use records::record_of;
-use replies::{Said, answer_attributes, answer_end, answer_start};
+use replies::{answer_attributes, answer_end, answer_start};
 
-// Answers a record that was read, with its outlines, if it is of its form.
+// Answers a record that was read, with its outlines.
+#[tactic(auto, unfolding(crate::specs::Answers::turn_by))]
 fn answer_record(
     sheet: &[u8],
     program: &[u32],
@@ -25,32 +26,32 @@ fn answer_record(
     outlines: &[u32],
     out: &mut [u8],
     at: usize,
-) -> Said
+) -> usize
     requires { (at ≤ 4294967296) × Fits read × (1020 ≤ length outlines.now) }
-    ensures nodes_after { answered result out.new (stores rows.new names.new ids.new nodes.new) ≡ saying (turn_by sheet.now program.now (stores rows.old names.old ids.old nodes.old) body.now read outlines.now) out.old at }
-    ensures within { Within (at + 4096) result }
+    ensures nodes_after { answered (Some result) out.new (stores rows.new names.new ids.new nodes.new) ≡ saying (turn_by sheet.now program.now (stores rows.old names.old ids.old nodes.old) body.now (Some read) outlines.now) out.old at }
+    ensures upper_bound { result ≤ at + 4096 }
 {
     match read {
-        Record::Start(namespace) => {
+        Record::Start { namespace } => {
             let name = part_of(body, 2, body.len());
-            Said::Line(answer_start(
+            answer_start(
                 sheet, program, rows, names, ids, nodes, namespace, name, out, at,
-            ))
+            )
         }
-        Record::Attributes(mark, n) => {
-            let given = &outlines[0..n];
-            Said::Line(answer_attributes(
-                sheet, program, rows, names, ids, nodes, mark, body, given, out, at,
-            ))
+        Record::Attributes { closing, numbers } => {
+            let given = &outlines[..numbers];
+            answer_attributes(
+                sheet, program, rows, names, ids, nodes, closing, body, given, out, at,
+            )
         }
         Record::End => {
             let name = part_of(body, 1, body.len());
-            Said::Line(answer_end(sheet, program, rows, names, ids, nodes, name, out, at))
+            answer_end(sheet, program, rows, names, ids, nodes, name, out, at)
         }
-        Record::Faulty => Said::Faulty,
     }
 }
 
+#[tactic(auto, unfolding(crate::specs::Answers::outline_room))]
 fn outline_room() -> [u32; 1020]
     ensures { result ≡ outline_room }
 {
@@ -58,6 +59,7 @@ fn outline_room() -> [u32; 1020]
 }
 
 // Answers the record of this body with a line, if it is of its form.
+#[tactic(auto, unfolding(crate::specs::Answers::turn_of))]
 pub fn answer(
     sheet: &[u8],
     program: &[u32],
@@ -68,14 +70,14 @@ pub fn answer(
     body: &[u8],
     out: &mut [u8],
     at: usize,
-) -> Said
+) -> Option<usize>
     requires { at ≤ 4294967296 }
     ensures nodes_after { answered result out.new (stores rows.new names.new ids.new nodes.new) ≡ saying (turn_of sheet.now program.now (stores rows.old names.old ids.old nodes.old) body.now) out.old at }
-    ensures within { Within (at + 4096) result }
+    ensures within { IfSome result (λ end. end ≤ at + 4096) }
 {
     let mut outlines = outline_room();
-    let record = record_of(body, &mut outlines);
-    answer_record(
-        sheet, program, rows, names, ids, nodes, body, record, &outlines, out, at,
-    )
+    let read = record_of(body, &mut outlines)?;
+    Some(answer_record(
+        sheet, program, rows, names, ids, nodes, body, read, &outlines, out, at,
+    ))
 }

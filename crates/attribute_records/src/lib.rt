@@ -1,79 +1,67 @@
 //! The attributes of a record read from its bytes (01, section 8). Any bytes are answered.
 #![tactic(auto)]
 
-ghost use Rattle.std.specs.Prelude.{◌≡◌, ◌≤◌, length};
+ghost use Rattle.std.specs.Prelude.{◌≡◌, ◌≤◌, length, IfSome};
 ghost use Rattle.attribute_records.specs.AttributeRecords.{read, read_attribute, attributes_of, stepped, Fits};
 
 use cells::numbers::u16_at;
 use cells::{at8, put32};
 
-// What a record says. A start tag has its namespace, and its name from byte 2 of the body on; an end tag has its name from byte 1 on;
+// What a record says. A start tag has its name from byte 2 of the body on; an end tag has its name from byte 1 on;
 // attributes have the self-closing mark and how many numbers their outlines are.
 #[derive(Clone, Copy)]
 pub enum Record {
-    Start(u32),
-    Attributes(bool, usize),
+    Start { namespace: u32 },
+    Attributes { closing: bool, numbers: usize },
     End,
-    Faulty,
 }
 
-// Where the next attribute starts.
-#[derive(Clone, Copy)]
-pub enum Step {
-    Next(usize),
-    Faulty,
-}
-
-// The attribute at a place: its outline goes to the outlines from `slot` on.
-fn read_attribute(body: &[u8], outlines: &mut [u32], slot: usize, at: usize) -> Step
+// The attribute at a place, if it is whole: its outline goes to the outlines from `slot` on, and the next one starts where it ends.
+#[tactic(auto, unfolding(crate::specs::AttributeRecords::read_attribute))]
+fn read_attribute(body: &[u8], outlines: &mut [u32], slot: usize, at: usize) -> Option<usize>
     requires { (length body.now ≤ 65535) × (slot ≤ 65536) }
     ensures { stepped result outlines.new ≡ read_attribute body.now slot at outlines.old }
 {
     if body.len() <= at {
-        return Step::Faulty;
+        return None;
     }
     let name = at + 1;
     let name_end = name + at8(body, at);
     let value = name_end + 2;
     let value_end = value + u16_at(body, name_end);
     if body.len() < value_end {
-        return Step::Faulty;
+        return None;
     }
     put32(outlines, slot, name as u32);
     put32(outlines, slot + 1, name_end as u32);
     put32(outlines, slot + 2, value as u32);
     put32(outlines, slot + 3, value_end as u32);
-    Step::Next(value_end)
+    Some(value_end)
 }
 
-pub fn attributes_of(body: &[u8], outlines: &mut [u32]) -> Record
+// The attributes of a body, if it is of their form.
+#[tactic(auto, unfolding(crate::specs::AttributeRecords::attributes_of))]
+pub fn attributes_of(body: &[u8], outlines: &mut [u32]) -> Option<Record>
     ensures outlines_after { read result outlines.new ≡ attributes_of body.now outlines.old }
-    ensures fits { Fits result }
+    ensures fits { IfSome result Fits }
 {
-    if 65535 < body.len() {
-        return Record::Faulty;
-    }
-    if body.len() < 3 {
-        return Record::Faulty;
+    if body.len() < 3 || 65535 < body.len() {
+        return None;
     }
     let mark = at8(body, 1);
     if 1 < mark {
-        return Record::Faulty;
+        return None;
     }
-    let mut left = at8(body, 2);
+    let count = at8(body, 2);
     let mut at = 3;
-    let mut slot = 0;
-    while 0 < left {
-        let step = read_attribute(body, outlines, slot, at);
-        let Step::Next(next) = step else {
-            return Record::Faulty;
-        };
-        at = next;
-        slot += 4;
-        left -= 1;
+    for i in 0..count {
+        at = read_attribute(body, outlines, 4 * i, at)?;
     }
     if at != body.len() {
-        return Record::Faulty;
+        return None;
     }
-    Record::Attributes(mark == 1, slot)
+    Some(Record::Attributes {
+        closing: mark == 1,
+        numbers: 4 * count,
+    })
 }

@@ -1,8 +1,7 @@
 -- How a run over a block of a trace begins and ends (01, section 8).
-use Rattle.std.specs.Prelude.{Bool, true, cond, not, List, ℕ, ◌+◌, ◌≤◌, eqb, ltb, length, get_or}
+use Rattle.std.specs.Prelude.{Bool, true, cond, List, ℕ, ◌+◌, Option, None, Some, eqb, ltb, length, get_or}
 use Rattle.cells.specs.Stretches.{written}
 use Rattle.lines.specs.Lines.{bad_trace_line}
-use Rattle.block_ends.specs.declared.Begin.{Begin}
 use Rattle.block_ends.specs.declared.Fed.{Fed}
 use Rattle.block_ends.specs.declared.Halt.{Halt}
 
@@ -23,14 +22,10 @@ cut_fed last place at wrote = cond last (bad_fed place at wrote) (fed at wrote H
 abbrev pub cut_out : (last : Bool) → (place at wrote : ℕ) → (out : List ℕ) → List ℕ
 cut_out last place at wrote out = cond last (bad_out place at wrote out) out
 
--- The version stands at the trace's first byte.
-unfoldable pub begin_of : (block : List ℕ) → (last : Bool) → (place : ℕ) → Begin
-begin_of block last place =
-    cond (ltb 0 place) (Begin.At 0)
-    (cond (eqb (length block) 0) (Begin.Not last)
-    (cond (not (eqb (get_or block 0 0) 1)) (Begin.Not true) (Begin.At 1)))
+-- Where the first record begins: the version stands at the trace's first byte.
+unfoldable pub begin_of : (block : List ℕ) → (place : ℕ) → Option ℕ
+begin_of block place = cond (ltb 0 place) (Some 0) (cond (eqb (get_or block 0 0) 1) (Some 1) None)
 
--- A first record begins by n.
-abbrev pub Inside : ℕ → Begin → Type 0
-Inside n (Begin.At first) = first ≤ n
-Inside n (Begin.Not faulty) = Unit {0}
+-- Where there is no version: a fault, unless its byte may still come.
+abbrev pub no_version : (block : List ℕ) → (last : Bool) → Bool
+no_version block last = cond (eqb (length block) 0) last true

@@ -1,8 +1,8 @@
 //! How a run over a block of a trace begins and ends: its version, why it halts, the last line (01, section 8).
 #![tactic(auto)]
 
-ghost use Rattle.std.specs.Prelude.{◌≡◌, ◌+◌, ◌≤◌, length};
-ghost use Rattle.block_ends.specs.BlockEnds.{bad_fed, bad_out, cut_fed, cut_out, begin_of, Inside};
+ghost use Rattle.std.specs.Prelude.{◌≡◌, ◌+◌, ◌≤◌, length, IfSome};
+ghost use Rattle.block_ends.specs.BlockEnds.{bad_fed, bad_out, cut_fed, cut_out, begin_of};
 
 use lines::put_bad_trace;
 
@@ -20,13 +20,6 @@ pub struct Fed {
     pub used: usize,
     pub wrote: usize,
     pub halt: Halt,
-}
-
-// Where the first record of a block begins; or the trace has not begun, and whether that is a fault.
-#[derive(Clone, Copy)]
-pub enum Begin {
-    At(usize),
-    Not(bool),
 }
 
 // `bad trace` and the place of the record that starts at `at` of the block.
@@ -53,24 +46,22 @@ pub fn cut_short(out: &mut [u8], at: usize, wrote: usize, place: u64, last: bool
     }
     Fed {
         used: at,
-        wrote: wrote,
+        wrote,
         halt: Halt::Hungry,
     }
 }
 
-// The version stands at the trace's first byte.
-pub fn first_record(block: &[u8], last: bool, place: u64) -> Begin
-    ensures value { result ≡ begin_of block.now last place }
-    ensures inside { Inside (length block.now) result }
+// Where the first record of a block begins; the version stands at the trace's first byte.
+#[tactic(auto, unfolding(crate::specs::BlockEnds::begin_of))]
+pub fn first_record(block: &[u8], place: u64) -> Option<usize>
+    ensures value { result ≡ begin_of block.now place }
+    ensures inside { IfSome result (λ first. first ≤ length block.now) }
 {
     if 0 < place {
-        return Begin::At(0);
+        return Some(0);
     }
-    if block.len() == 0 {
-        return Begin::Not(last);
+    match block {
+        [1, ..] => Some(1),
+        _ => None,
     }
-    if block[0] != 1 {
-        return Begin::Not(true);
-    }
-    Begin::At(1)
 }

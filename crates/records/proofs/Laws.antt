@@ -1,77 +1,33 @@
--- Each way out of reading a record.
-use mathlib.Core.List.{List, [], ◌∷◌}
-use mathlib.Core.Path.{◌≡◌, refl, ap}
-use Prim.Native.Nat.{ℕ, zero, suc, ◌+◌, ◌-◌, ◌≤◌, ◌<◌}
-use native.Mathlib.Numerals.{sub-one}
-use native.Mathlib.Omega.{arith}
-use borrow.Author.Tests.{lt-ltb, le-ltb, ne_eqb}
-use lib.ListN.{length, get_or, set}
-use Rattle.cells.specs.Numbers.{be16, be32}
-use Rattle.cells.specs.Stretches.{written, cells_from, cells-above}
-use Rattle.attribute_records.specs.AttributeRecords.{Read, read, attributes_of}
-use Rattle.attribute_records.specs.declared.Record.{Record}
-use Rattle.records.specs.Records.{record_end, start_of, record_of}
-use Rattle.records.specs.Sheets.{sheet_length}
-use Rattle.records.specs.declared.Cut.{Cut}
+-- Bytes moved to the front of their buffer, as std's copy and as stretches of cells say it.
+use Rattle.std.proofs.Common.{◌≡◌, ℕ, zero, suc, ◌+◌, ◌-◌, ◌≤◌, ◌<◌, List, [], ◌∷◌, ◌++◌, refl, sym, ap, ◌∙◌, arith, length, take, drop, get_or, set}
+use Rattle.std.proofs.Math.Seq.{drop-cons}
+use Rattle.std.proofs.lemmas.List.{append_assoc, drop-set-lt, length-set, take-append-drop}
+use Rattle.std.proofs.lemmas.Grind.{take-set_at}
+use Rattle.std.specs.List.{copy_within}
+use Rattle.cells.specs.Stretches.{written, cells_from, length-cells}
 
--- ---- where a record ends
+cells_are : (xs : List ℕ) (a n : ℕ) → a + n ≤ length xs → cells_from xs a n ≡ take n (drop a xs)
+unfolding cells_from
+cells_are xs a zero h = refl
+cells_are xs a (suc n) h =
+    let lt : a < length xs = omega arith in
+    let e : suc a ≡ a + 1 = omega arith in
+    rw (drop-cons xs a 0, e) (ap (λ l. get_or xs a 0 ∷ l) (cells_are xs (a + 1) n (omega arith)))
 
-module _ (s : List ℕ) (at : ℕ) where
-  pub end_short : length s < at + 2 → Cut.Short ≡ record_end s at
-  unfolding record_end
-  end_short h = let b : length s < at + 2 + be16 s at = omega arith in simp (lt-ltb _ _ b)
+written_is : (xs : List ℕ) (a : ℕ) (vs : List ℕ) → a + length vs ≤ length xs → written xs a vs ≡ take a xs ++ (vs ++ drop (a + length vs) xs)
+unfolding written
+written_is xs a [] h = let e : a + 0 ≡ a = omega arith in rw e (sym (take-append-drop a xs))
+written_is xs a (v ∷ vs) h =
+    let lt : a < length xs = omega arith in
+    let k : length (set xs a v) ≡ length xs = length-set xs a v in
+    let e : a + suc (length vs) ≡ a + 1 + length vs = omega arith in
+    let t : take (a + 1) (set xs a v) ≡ take a xs ++ v ∷ [] = take-set_at xs a (a + 1) v refl lt in
+    let d : drop (a + 1 + length vs) (set xs a v) ≡ drop (a + 1 + length vs) xs = drop-set-lt (a + 1 + length vs) xs a v (omega arith) in
+    written_is (set xs a v) (a + 1) vs (omega arith) ∙ rw (e, t, d) (append_assoc (take a xs) (v ∷ []) (vs ++ drop (a + 1 + length vs) xs))
 
-  module _ (n : ℕ) (e : n ≡ be16 s at) where
-    pub end-cut : length s < at + 2 + n → Cut.Short ≡ record_end s at
-    unfolding record_end
-    end-cut h = simp (← e, lt-ltb _ _ h)
-
-    pub end_whole : at + 2 + n ≤ length s → Cut.Whole (at + 2 + n) ≡ record_end s at
-    unfolding record_end
-    end_whole h = simp (← e, le-ltb _ _ h)
-
--- ---- by its kind
-
-module _ (s o : List ℕ) (k : ℕ) (e : k ≡ get_or s 0 0) where
-  pub kind-start : k ≡ 1 → (r : Record) → r ≡ start_of s → read r o ≡ record_of s o
-  unfolding record_of
-  kind-start h r f = simp (← e, h) (ap (λ (x : Record). read x o) f)
-
-  pub kind-attributes : (k ≡ 1 → ⊥) → k ≡ 2 → (r : Read) → r ≡ attributes_of s o → r ≡ record_of s o
-  unfolding record_of
-  kind-attributes g h r f = simp (← e, h) f
-
-  pub kind-end : (k ≡ 1 → ⊥) → (k ≡ 2 → ⊥) → k ≡ 3 → read Record.End o ≡ record_of s o
-  unfolding record_of
-  kind-end f g h = simp (← e, h)
-
-  pub kind-none : (k ≡ 1 → ⊥) → (k ≡ 2 → ⊥) → (k ≡ 3 → ⊥) → read Record.Faulty o ≡ record_of s o
-  unfolding record_of
-  kind-none f g h = simp (← e, ne_eqb _ _ f, ne_eqb _ _ g, ne_eqb _ _ h)
-
--- ---- the sheet's length
-
-pub length_over : (s : List ℕ) (n : ℕ) → n ≡ be32 s 1 → 65536 < n → 65536 ≡ sheet_length s
-unfolding sheet_length
-length_over s n e h = simp (← e, lt-ltb _ _ h)
-
-pub length-said : (s : List ℕ) (n : ℕ) → n ≡ be32 s 1 → n ≤ 65536 → n ≡ sheet_length s
-unfolding sheet_length
-length-said s n e h = simp (← e, le-ltb _ _ h)
-
--- ---- bytes moved to the front: the next one, and those behind it stay
-
-pub keep-more : (s : List ℕ) (at i m : ℕ) → 0 < m → written s i (cells_from s (at + i) m) ≡ written (set s i (get_or s (at + i) 0)) (i + 1) (cells_from (set s i (get_or s (at + i) 0)) (at + (i + 1)) (m - 1))
-unfolding written cells_from
-keep-more s at i zero h = absurd (omega arith)
-keep-more s at i (suc m) h =
-    let e : at + i + 1 ≡ at + (i + 1) = omega arith in
-    rw (sub-one, e, ← cells-above s i (get_or s (at + i) 0 ∷ []) (at + (i + 1)) m (omega arith))
-
-pub keep-start : (s : List ℕ) (at n : ℕ) → written s 0 (cells_from s at n) ≡ written s 0 (cells_from s (at + 0) (n - 0))
-keep-start s at n = let e : at + 0 ≡ at = omega arith in let f : n - 0 ≡ n = omega arith in rw (e, f)
-
-pub keep_all : (s : List ℕ) (at i m : ℕ) → m ≤ 0 → written s i (cells_from s at m) ≡ s
-unfolding written cells_from
-keep_all s at i zero h = refl
-keep_all s at i (suc m) h = absurd (omega arith)
+pub copied_to_front : (xs : List ℕ) (at end : ℕ) → at ≤ end → end ≤ length xs → copy_within xs at end 0 ≡ written xs 0 (cells_from xs at (end - at))
+copied_to_front xs at end h g =
+    let n = end - at in
+    let k : length (cells_from xs at n) ≡ n = length-cells xs at n in
+    let e : cells_from xs at n ≡ take n (drop at xs) = cells_are xs at n (omega arith) in
+    sym (written_is xs 0 (cells_from xs at n) (omega arith) ∙ rw (k, e) refl)

@@ -1,5 +1,5 @@
 -- A call of the machine, the line that answers it, and the stores after it (01, section 8).
-use Rattle.std.specs.Prelude.{Bool, List, ℕ, ◌+◌, ◌≤◌, length, replicate}
+use Rattle.std.specs.Prelude.{Bool, List, ℕ, ◌+◌, Option, None, Some, length, replicate}
 use Rattle.cells.specs.Stretches.{written}
 use Rattle.accepting.specs.Accepting.{Outcome}
 use Rattle.ends.specs.Ends.{end_call}
@@ -7,7 +7,6 @@ use Rattle.starts.specs.Starts.{start_call}
 use Rattle.resumes.specs.Resumes.{attributes_call}
 use Rattle.stack.specs.Stores.{Stores, stores}
 use Rattle.reply_lines.specs.ReplyLines.{reply_line, popped_line}
-use Rattle.replies.specs.declared.Said.{Said}
 
 -- What a record does: a line and the stores after it; or it is faulty, and they stay.
 pub data Turn : Type 0 where
@@ -33,20 +32,15 @@ module _ (sheet program : List ℕ) (s : Stores) where
       let e = end_call sheet program s name popped_room in
       Turn.line (popped_line e.answer) (stores e.rows s.names s.ids s.nodes)
 
--- What the code says of a record: where its line ends, or that it is faulty; the buffer and the stores after it.
+-- What the code says of a record: where its line ends, none where it is faulty; the buffer and the stores after it.
 pub record Answered : Type 0 where
-  pub said : Said
+  pub said : Option ℕ
   pub out : List ℕ
   pub after : Stores
 
-abbrev pub answered : Said → List ℕ → Stores → Answered
+abbrev pub answered : Option ℕ → List ℕ → Stores → Answered
 answered said out after = record { said = said; out = out; after = after }
 
 unfoldable pub saying : Turn → (out : List ℕ) → (at : ℕ) → Answered
-saying (Turn.line text after) out at = answered (Said.Line (at + length text)) (written out at text) after
-saying (Turn.faulty after) out at = answered Said.Faulty out after
-
--- A line ends by n.
-abbrev pub Within : ℕ → Said → Type 0
-Within n (Said.Line end) = end ≤ n
-Within n Said.Faulty = Unit {0}
+saying (Turn.line text after) out at = answered (Some (at + length text)) (written out at text) after
+saying (Turn.faulty after) out at = answered None out after

@@ -1,18 +1,11 @@
 //! A call of the machine and the line that answers it.
 #![tactic(auto)]
 
-ghost use Rattle.std.specs.Prelude.{◌≡◌, ◌+◌, ◌≤◌};
+ghost use Rattle.std.specs.Prelude.{◌≡◌, ◌+◌, ◌≤◌, Some};
 ghost use Rattle.stack.specs.Stores.{stores};
 ghost use Rattle.replies.specs.Replies.{answered, start_turn, attributes_turn, end_turn, popped_room, saying};
 
 use reply_lines::{put_popped, put_reply};
-
-// Where the line ends, or that the record is faulty.
-#[derive(Clone, Copy)]
-pub enum Said {
-    Line(usize),
-    Faulty,
-}
 
 pub fn answer_start(
     sheet: &[u8],
@@ -27,7 +20,7 @@ pub fn answer_start(
     at: usize,
 ) -> usize
     requires { at ≤ 4294967296 }
-    ensures nodes_after { answered (Said.Line result) out.new (stores rows.new names.new ids.new nodes.new) ≡ saying (start_turn sheet.now program.now (stores rows.old names.old ids.old nodes.old) namespace name.now) out.old at }
+    ensures nodes_after { answered (Some result) out.new (stores rows.new names.new ids.new nodes.new) ≡ saying (start_turn sheet.now program.now (stores rows.old names.old ids.old nodes.old) namespace name.now) out.old at }
     ensures upper_bound { result ≤ at + 4096 }
 {
     let reply = starts::start(sheet, program, rows, names, ids, nodes, namespace, name);
@@ -48,7 +41,7 @@ pub fn answer_attributes(
     at: usize,
 ) -> usize
     requires { at ≤ 4294967296 }
-    ensures nodes_after { answered (Said.Line result) out.new (stores rows.new names.new ids.new nodes.new) ≡ saying (attributes_turn sheet.now program.now (stores rows.old names.old ids.old nodes.old) closing body.now outlines.now) out.old at }
+    ensures nodes_after { answered (Some result) out.new (stores rows.new names.new ids.new nodes.new) ≡ saying (attributes_turn sheet.now program.now (stores rows.old names.old ids.old nodes.old) closing body.now outlines.now) out.old at }
     ensures upper_bound { result ≤ at + 4096 }
 {
     let reply = resumes::attributes(
@@ -76,7 +69,7 @@ pub fn answer_end(
     at: usize,
 ) -> usize
     requires { at ≤ 4294967296 }
-    ensures nodes_after { answered (Said.Line result) out.new (stores rows.new names.now ids.now nodes.now) ≡ saying (end_turn sheet.now program.now (stores rows.old names.now ids.now nodes.now) name.now) out.old at }
+    ensures nodes_after { answered (Some result) out.new (stores rows.new names.now ids.now nodes.now) ≡ saying (end_turn sheet.now program.now (stores rows.old names.now ids.now nodes.now) name.now) out.old at }
     ensures upper_bound { result ≤ at + 4096 }
 {
     let mut popped = popped_room();

@@ -4,6 +4,7 @@
 
 ghost use Rattle.std.specs.Prelude.{◌≡◌, length};
 
+use block_ends::Halt;
 use lines::{put_refused, put_sheet_refused};
 use making::{Made, fresh_machine};
 use std::io::{Read, Result, Write};
@@ -31,14 +32,13 @@ fn run<R: Read, W: Write>(
         end: 0,
         place: 0,
         last: false,
-        hungry: false,
-        over: false,
+        halt: Halt::Full,
     };
     while 0 < turns {
         p = turn(
             reader, writer, p, sheet, program, rows, names, ids, nodes, input, out,
         )?;
-        if p.over {
+        if matches!(p.halt, Halt::Over) {
             return Ok(());
         }
         turns -= 1;

@@ -1,40 +1,35 @@
 -- Each way out of a run over a block.
 use mathlib.Core.Bool.{Bool, true, false, cond}
 use mathlib.Core.List.{List}
-use mathlib.Core.Path.{◌≡◌, refl, sym, ◌∙◌, subst}
+use mathlib.Core.Path.{◌≡◌, refl, sym, ◌∙◌}
 use Prim.Native.Nat.{ℕ, zero, suc, ◌+◌, ◌-◌, ◌≤◌, ◌<◌}
 use native.Mathlib.Numerals.{sub-one}
 use native.Mathlib.Omega.{arith}
 use borrow.Author.Tests.{lt-ltb, le-ltb, ltb-false, lt-leb, le-leb}
 use lib.Dec.{ltb}
 use lib.ListN.{length}
+use Rattle.std.specs.Prelude.{Option, None, Some}
 use Rattle.cells.specs.Numbers.{part, be16}
 use Rattle.records.specs.Records.{record_end}
-use Rattle.records.specs.declared.Cut.{Cut}
 use Rattle.stack.specs.Stores.{Stores}
 use Rattle.answers.specs.Answers.{turn_of}
-use Rattle.replies.specs.Replies.{answered, Within, saying}
-use Rattle.block_ends.specs.BlockEnds.{fed, bad_fed, bad_out, cut_fed, cut_out, begin_of, Inside}
-use Rattle.trace.specs.Run.{Ran, ran, on_cut, on_said, answers_from, feed_by, feed_of}
-use Rattle.replies.specs.declared.Said.{Said}
-use Rattle.block_ends.specs.declared.Begin.{Begin}
+use Rattle.replies.specs.Replies.{answered, saying}
+use Rattle.block_ends.specs.BlockEnds.{fed, bad_fed, bad_out, cut_fed, cut_out}
+use Rattle.trace.specs.Run.{ran, on_cut, on_said, answers_from}
 use Rattle.block_ends.specs.declared.Fed.{Fed}
 use Rattle.block_ends.specs.declared.Halt.{Halt}
 
 -- a whole record lies in its block
-pub end-bounds : (block : List ℕ) (at : ℕ) (cut : Cut) (end : ℕ) → cut ≡ record_end block at → cut ≡ Cut.Whole end → (at + 2 ≤ end) × (end ≤ length block)
+pub end-bounds : (block : List ℕ) (at : ℕ) (cut : Option ℕ) (end : ℕ) → cut ≡ record_end block at → cut ≡ Some end → (at + 2 ≤ end) × (end ≤ length block)
 unfolding record_end
 end-bounds block at cut end e f = by (ltb (length block) (at + 2 + be16 block at)) refl (sym f ∙ e)
   where
-    by : (b : Bool) → ltb (length block) (at + 2 + be16 block at) ≡ b → Cut.Whole end ≡ cond b Cut.Short (Cut.Whole (at + 2 + be16 block at)) → (at + 2 ≤ end) × (end ≤ length block)
+    by : (b : Bool) → ltb (length block) (at + 2 + be16 block at) ≡ b → Some end ≡ cond b None (Some (at + 2 + be16 block at)) → (at + 2 ≤ end) × (end ≤ length block)
     by true t q = let z : ◌≡◌ {A = ℕ} 0 1 = cc in absurd (omega arith)
     by false t q =
         let l = ltb-false (length block) (at + 2 + be16 block at) t in
         let z : end ≡ at + 2 + be16 block at = cc in
         (omega arith, omega arith)
-
-pub line-bound : (n next : ℕ) (said : Said) → said ≡ Said.Line next → Within n said → next ≤ n
-line-bound n next said e w = subst (λ (x : Said). Within n x) e w
 
 module _ (sheet program block : List ℕ) (last : Bool) (place : ℕ) where
   pub run-done : (n at wrote : ℕ) (out : List ℕ) (s : Stores) → length block ≤ at → ran (fed at wrote Halt.Hungry) out s ≡ answers_from sheet program block last place n at wrote out s
@@ -47,39 +42,25 @@ module _ (sheet program block : List ℕ) (last : Bool) (place : ℕ) where
   run-full zero at wrote out s p h g = absurd (omega arith)
   run-full (suc n) at wrote out s p h g = simp (lt-leb _ _ h, lt-ltb _ _ g)
 
-  pub run-cut : (n at wrote : ℕ) (out : List ℕ) (s : Stores) → 0 < n → at < length block → 8192 ≤ length out - wrote → (cut : Cut) → cut ≡ record_end block at → cut ≡ Cut.Short
+  pub run-cut : (n at wrote : ℕ) (out : List ℕ) (s : Stores) → 0 < n → at < length block → 8192 ≤ length out - wrote → (cut : Option ℕ) → cut ≡ record_end block at → cut ≡ None
       → (r : Fed) (o : List ℕ) → r ≡ cut_fed last place at wrote → o ≡ cut_out last place at wrote out → ran r o s ≡ answers_from sheet program block last place n at wrote out s
   unfolding answers_from on_cut
   run-cut zero at wrote out s p h g cut e f r o a b = absurd (omega arith)
   run-cut (suc n) at wrote out s p h g cut e f r o a b = simp (lt-leb _ _ h, le-ltb _ _ g, ← e, f) (λ i. ran (a i) (b i) s)
 
-  pub run-faulty : (n at wrote : ℕ) (out : List ℕ) (s : Stores) → 0 < n → at < length block → 8192 ≤ length out - wrote → (cut : Cut) (end : ℕ) → cut ≡ record_end block at → cut ≡ Cut.Whole end
-      → (body : List ℕ) → body ≡ part block (at + 2) end → (said : Said) (o₁ : List ℕ) (s₁ : Stores) → answered said o₁ s₁ ≡ saying (turn_of sheet program s body) out wrote → said ≡ Said.Faulty
+  pub run-faulty : (n at wrote : ℕ) (out : List ℕ) (s : Stores) → 0 < n → at < length block → 8192 ≤ length out - wrote → (cut : Option ℕ) (end : ℕ) → cut ≡ record_end block at → cut ≡ Some end
+      → (body : List ℕ) → body ≡ part block (at + 2) end → (said : Option ℕ) (o₁ : List ℕ) (s₁ : Stores) → answered said o₁ s₁ ≡ saying (turn_of sheet program s body) out wrote → said ≡ None
       → (r : Fed) (o : List ℕ) → r ≡ bad_fed place at wrote → o ≡ bad_out place at wrote o₁ → ran r o s₁ ≡ answers_from sheet program block last place n at wrote out s
   unfolding answers_from on_cut on_said
   run-faulty zero at wrote out s p h g cut end e f body q said o₁ s₁ t u r o a b = absurd (omega arith)
   run-faulty (suc n) at wrote out s p h g cut end e f body q said o₁ s₁ t u r o a b = simp (lt-leb _ _ h, le-ltb _ _ g, ← e, f, ← q, ← t, u) (λ i. ran (a i) (b i) s₁)
 
-  pub run_more : (n at wrote : ℕ) (out : List ℕ) (s : Stores) → 0 < n → at < length block → 8192 ≤ length out - wrote → (cut : Cut) (end : ℕ) → cut ≡ record_end block at → cut ≡ Cut.Whole end
-      → (body : List ℕ) → body ≡ part block (at + 2) end → (said : Said) (next : ℕ) (o₁ : List ℕ) (s₁ : Stores) → answered said o₁ s₁ ≡ saying (turn_of sheet program s body) out wrote → said ≡ Said.Line next
+  pub run_more : (n at wrote : ℕ) (out : List ℕ) (s : Stores) → 0 < n → at < length block → 8192 ≤ length out - wrote → (cut : Option ℕ) (end : ℕ) → cut ≡ record_end block at → cut ≡ Some end
+      → (body : List ℕ) → body ≡ part block (at + 2) end → (said : Option ℕ) (next : ℕ) (o₁ : List ℕ) (s₁ : Stores) → answered said o₁ s₁ ≡ saying (turn_of sheet program s body) out wrote → said ≡ Some next
       → answers_from sheet program block last place n at wrote out s ≡ answers_from sheet program block last place (n - 1) end next o₁ s₁
   unfolding answers_from on_cut on_said
   run_more zero at wrote out s p h g cut end e f body q said next o₁ s₁ t u = absurd (omega arith)
   run_more (suc n) at wrote out s p h g cut end e f body q said next o₁ s₁ t u = rw sub-one (simp (lt-leb _ _ h, le-ltb _ _ g, ← e, f, ← q, ← t, u))
-
--- ---- the version, then the records
-
-module _ (sheet program block : List ℕ) (last : Bool) (place : ℕ) (out : List ℕ) (s : Stores) (b : Begin) (e : b ≡ begin_of block last place) where
-  pub feed-at : (first : ℕ) → b ≡ Begin.At first → (x : Ran) → x ≡ answers_from sheet program block last place (length block) first 0 out s → x ≡ feed_of sheet program block last place out s
-  unfolding feed_of feed_by
-  feed-at first f x q = rw (← e, f) q
-
-  pub feed-not : (faulty : Bool) → b ≡ Begin.Not faulty → (r : Fed) (o : List ℕ) → r ≡ cut_fed faulty 0 0 0 → o ≡ cut_out faulty 0 0 0 out → ran r o s ≡ feed_of sheet program block last place out s
-  unfolding feed_of feed_by
-  feed-not faulty f r o p q = rw (← e, f) (λ i. ran (p i) (q i) s)
-
-pub begin-bound : (n first : ℕ) (b : Begin) → b ≡ Begin.At first → Inside n b → first ≤ n
-begin-bound n first b e w = subst (λ (x : Begin). Inside n x) e w
 
 -- What is left to answer gives what the whole gives.
 pub record Left (sheet program block : List ℕ) (last : Bool) (place first : ℕ) (out₀ : List ℕ) (s₀ : Stores) (at wrote : ℕ) (out : List ℕ) (s : Stores) : Type 0 where
@@ -100,17 +81,17 @@ module _ (sheet program block : List ℕ) (last : Bool) (place first : ℕ) (out
   pub left-full : at < length block → length out - wrote < 8192 → ran (fed at wrote Halt.Full) out s ≡ answers_from sheet program block last place (length block) first 0 out₀ s₀
   left-full h g = run-full sheet program block last place l.n at wrote out s (some_left h) h g ∙ sym l.same
 
-  module _ (h : at < length block) (g : 8192 ≤ length out - wrote) (cut : Cut) (e : cut ≡ record_end block at) where
-    pub left_cut : cut ≡ Cut.Short → (r : Fed) (o : List ℕ) → r ≡ cut_fed last place at wrote → o ≡ cut_out last place at wrote out
+  module _ (h : at < length block) (g : 8192 ≤ length out - wrote) (cut : Option ℕ) (e : cut ≡ record_end block at) where
+    pub left_cut : cut ≡ None → (r : Fed) (o : List ℕ) → r ≡ cut_fed last place at wrote → o ≡ cut_out last place at wrote out
         → ran r o s ≡ answers_from sheet program block last place (length block) first 0 out₀ s₀
     left_cut f r o a b = run-cut sheet program block last place l.n at wrote out s (some_left h) h g cut e f r o a b ∙ sym l.same
 
-    module _ (end : ℕ) (f : cut ≡ Cut.Whole end) (body : List ℕ) (q : body ≡ part block (at + 2) end) (said : Said) (o₁ : List ℕ) (s₁ : Stores) (t : answered said o₁ s₁ ≡ saying (turn_of sheet program s body) out wrote) where
-      pub left-faulty : said ≡ Said.Faulty → (r : Fed) (o : List ℕ) → r ≡ bad_fed place at wrote → o ≡ bad_out place at wrote o₁
+    module _ (end : ℕ) (f : cut ≡ Some end) (body : List ℕ) (q : body ≡ part block (at + 2) end) (said : Option ℕ) (o₁ : List ℕ) (s₁ : Stores) (t : answered said o₁ s₁ ≡ saying (turn_of sheet program s body) out wrote) where
+      pub left-faulty : said ≡ None → (r : Fed) (o : List ℕ) → r ≡ bad_fed place at wrote → o ≡ bad_out place at wrote o₁
           → ran r o s₁ ≡ answers_from sheet program block last place (length block) first 0 out₀ s₀
       left-faulty u r o a b = run-faulty sheet program block last place l.n at wrote out s (some_left h) h g cut end e f body q said o₁ s₁ t u r o a b ∙ sym l.same
 
-      pub left-more : (next : ℕ) → said ≡ Said.Line next → Left sheet program block last place first out₀ s₀ end next o₁ s₁
+      pub left-more : (next : ℕ) → said ≡ Some next → Left sheet program block last place first out₀ s₀ end next o₁ s₁
       left-more next u =
           let i = l.enough in
           let b = end-bounds block at cut end e f in

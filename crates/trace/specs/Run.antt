@@ -1,14 +1,11 @@
 -- A run over a block of a trace: each whole record is answered by a line, until the bytes, the room or the trace end (01, section 8).
-use Rattle.std.specs.Prelude.{Bool, cond, List, ℕ, zero, suc, ◌+◌, ◌-◌, ltb, leb, length}
+use Rattle.std.specs.Prelude.{Bool, cond, List, ℕ, zero, suc, ◌+◌, ◌-◌, Option, None, Some, ltb, leb, length}
 use Rattle.cells.specs.Numbers.{part}
 use Rattle.records.specs.Records.{record_end}
-use Rattle.records.specs.declared.Cut.{Cut}
 use Rattle.stack.specs.Stores.{Stores}
 use Rattle.answers.specs.Answers.{turn_of}
 use Rattle.replies.specs.Replies.{Answered, saying}
-use Rattle.replies.specs.declared.Said.{Said}
-use Rattle.block_ends.specs.BlockEnds.{fed, bad_fed, bad_out, cut_fed, cut_out, begin_of}
-use Rattle.block_ends.specs.declared.Begin.{Begin}
+use Rattle.block_ends.specs.BlockEnds.{fed, bad_fed, bad_out, cut_fed, cut_out, begin_of, no_version}
 use Rattle.block_ends.specs.declared.Fed.{Fed}
 use Rattle.block_ends.specs.declared.Halt.{Halt}
 
@@ -29,16 +26,16 @@ bad_run place at wrote out s = ran (bad_fed place at wrote) (bad_out place at wr
 abbrev pub cut_run : (last : Bool) → (place at wrote : ℕ) → (out : List ℕ) → Stores → Ran
 cut_run last place at wrote out s = ran (cut_fed last place at wrote) (cut_out last place at wrote out) s
 
-unfoldable pub on_cut : Cut → Ran → (ℕ → Ran) → Ran
-on_cut Cut.Short short go = short
-on_cut (Cut.Whole end) short go = go end
+unfoldable pub on_cut : Option ℕ → Ran → (ℕ → Ran) → Ran
+on_cut None short go = short
+on_cut (Some end) short go = go end
 
 unfoldable pub on_said : Answered → (bad : List ℕ → Stores → Ran) → (ℕ → List ℕ → Stores → Ran) → Ran
 on_said a bad go = by a.said
   where
-    by : Said → Ran
-    by (Said.Line next) = go next a.out a.after
-    by Said.Faulty = bad a.out a.after
+    by : Option ℕ → Ran
+    by (Some next) = go next a.out a.after
+    by None = bad a.out a.after
 
 -- The block stands at `place` of the trace; `last`: no bytes come after it.
 module _ (sheet program block : List ℕ) (last : Bool) (place : ℕ) where
@@ -54,9 +51,9 @@ module _ (sheet program block : List ℕ) (last : Bool) (place : ℕ) where
       (λ out' s'. bad_run place at wrote out' s')
       (λ next out' s'. answers_from n end next out' s'))))
 
-  unfoldable pub feed_by : Begin → (out : List ℕ) → Stores → Ran
-  feed_by (Begin.At first) out s = answers_from (length block) first 0 out s
-  feed_by (Begin.Not faulty) out s = cut_run faulty 0 0 0 out s
+  unfoldable pub feed_by : Option ℕ → (out : List ℕ) → Stores → Ran
+  feed_by (Some first) out s = answers_from (length block) first 0 out s
+  feed_by None out s = cut_run (no_version block last) 0 0 0 out s
 
   unfoldable pub feed_of : (out : List ℕ) → Stores → Ran
-  feed_of out s = feed_by (begin_of block last place) out s
+  feed_of out s = feed_by (begin_of block place) out s

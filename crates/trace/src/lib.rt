@@ -6,10 +6,9 @@ ghost use Rattle.stack.specs.Stores.{stores};
 ghost use Rattle.trace.specs.Run.{ran, answers_from, feed_of};
 
 use answers::answer;
-use block_ends::{Begin, Fed, Halt, bad_trace, cut_short, first_record};
+use block_ends::{Fed, Halt, bad_trace, cut_short, first_record};
 use cells::part_of;
-use records::{Cut, record_end};
-use replies::Said;
+use records::record_end;
 
 // Answers the records of a block from `first` on.
 fn answer_records(
@@ -35,17 +34,15 @@ fn answer_records(
         if out.len() - wrote < 8192 {
             return Fed {
                 used: at,
-                wrote: wrote,
+                wrote,
                 halt: Halt::Full,
             };
         }
-        let cut = record_end(block, at);
-        let Cut::Whole(end) = cut else {
+        let Some(end) = record_end(block, at) else {
             return cut_short(out, at, wrote, place, last);
         };
         let body = part_of(block, at + 2, end);
-        let said = answer(sheet, program, rows, names, ids, nodes, body, out, wrote);
-        let Said::Line(next) = said else {
+        let Some(next) = answer(sheet, program, rows, names, ids, nodes, body, out, wrote) else {
             return bad_trace(out, at, wrote, place);
         };
         wrote = next;
@@ -53,12 +50,13 @@ fn answer_records(
     }
     Fed {
         used: at,
-        wrote: wrote,
+        wrote,
         halt: Halt::Hungry,
     }
 }
 
 // Answers the records of a block that stands at `place` of the trace; the version stands first. `last`: no bytes come after the block.
+#[tactic(auto, unfolding(crate::specs::Run::feed_of, crate::specs::Run::feed_by))]
 pub fn feed(
     sheet: &[u8],
     program: &[u32],
@@ -75,11 +73,14 @@ pub fn feed(
     ensures nodes_after { ran result out.new (stores rows.new names.new ids.new nodes.new) ≡ feed_of sheet.now program.now block.now last place out.old (stores rows.old names.old ids.old nodes.old) }
     ensures used_in_bounds { (result.used ≤ length block.now) × (result.wrote ≤ length out.new) }
 {
-    let begin = first_record(block, last, place);
-    match begin {
-        Begin::At(first) => answer_records(
+    match first_record(block, place) {
+        Some(first) => answer_records(
             sheet, program, rows, names, ids, nodes, block, first, last, place, out,
         ),
-        Begin::Not(faulty) => cut_short(out, 0, 0, 0, faulty),
+        // Only the version byte itself may still come.
+        None => {
+            let faulty = last || !block.is_empty();
+            cut_short(out, 0, 0, 0, faulty)
+        }
     }
 }

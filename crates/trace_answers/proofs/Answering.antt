@@ -1,11 +1,10 @@
 -- Each record's line is that of the answer to its call.
-use Rattle.std.proofs.Common.{◌≡◌, ℕ, zero, suc, ◌+◌, List, [], ◌∷◌, Bool, true, false, cond, None, refl, sym, ap, ◌∙◌, length, get_or}
+use Rattle.std.proofs.Common.{◌≡◌, ℕ, zero, suc, ◌+◌, List, [], ◌∷◌, Bool, true, false, cond, Option, None, Some, refl, sym, ap, ◌∙◌, length, get_or}
 use Rattle.std.proofs.Math.Dec.{leb, eqb}
 use Rattle.cells.specs.Numbers.{part}
 use Rattle.lines.specs.Lines.{pop_line}
 use Rattle.attribute_records.specs.declared.Record.{Record}
 use Rattle.records.specs.Records.{record_end, record_of}
-use Rattle.records.specs.declared.Cut.{Cut}
 use Rattle.stack.specs.Stores.{Stores}
 use Rattle.accepting.specs.declared.Answer.{Answer}
 use Rattle.ends.specs.Ends.{end_call}
@@ -51,19 +50,19 @@ module _ (sheet program : List ℕ) where
   unfolding after_calls
   line-told s call line go goes e h = ap (λ (t : Told). following (line ∷ []) t) (h (called sheet program s call).1) ∙ ap (λ (l : List ℕ). following (l ∷ []) (told_by goes (called sheet program s call).1)) e
 
-  turn-told : (s : Stores) (body : List ℕ) (rd : Record) (outlines : List ℕ) (bad go : Stores → Told) (bads goes : Heard) → bad s ≡ told_by bads s → ((s' : Stores) → go s' ≡ told_by goes s')
+  turn-told : (s : Stores) (body : List ℕ) (rd : Option Record) (outlines : List ℕ) (bad go : Stores → Told) (bads goes : Heard) → bad s ≡ told_by bads s → ((s' : Stores) → go s' ≡ told_by goes s')
       → on_turn (turn_by sheet program s body rd outlines) bad go ≡ told_by (calling (call_by body rd outlines) bads goes) s
   unfolding turn_by call_by calling on_turn spoken end_turn
-  turn-told s body (Record.Start namespace) outlines bad go bads goes e h =
+  turn-told s body (Some (Record.Start namespace)) outlines bad go bads goes e h =
       let o = start_call sheet program s namespace (part body 2 (length body)) in
       line-told s (host_start_tag namespace (part body 2 (length body))) (answer_line o.reply.answer o.reply.ids) go goes (tag-line o.reply.answer o.reply.ids) h
-  turn-told s body (Record.Attributes closing n) outlines bad go bads goes e h =
+  turn-told s body (Some (Record.Attributes closing n)) outlines bad go bads goes e h =
       let o = attributes_call sheet program s closing body (part outlines 0 n) in
       line-told s (host_attributes closing body (part outlines 0 n)) (answer_line o.reply.answer o.reply.ids) go goes (tag-line o.reply.answer o.reply.ids) h
-  turn-told s body Record.End outlines bad go bads goes e h =
+  turn-told s body (Some Record.End) outlines bad go bads goes e h =
       let o = end_call sheet program s (part body 1 (length body)) popped_room in
       line-told s (host_end_tag (part body 1 (length body)) popped_room) (popped_line o.answer) go goes (pop-line o.answer o.out) h
-  turn-told s body Record.Faulty outlines bad go bads goes e h = e
+  turn-told s body None outlines bad go bads goes e h = e
 
   bad-told : (at : ℕ) (s : Stores) (trace : List ℕ) → bad_at sheet program trace at s ≡ told_by (bad_from trace at) s
   unfolding bad_line after_calls
@@ -75,15 +74,15 @@ module _ (sheet program : List ℕ) where
     records-told zero at s = refl
     records-told (suc n) at s = by (λ end s'. records-told n end s') (leb (length trace) at) (record_end trace at)
       where
-        by : ((end : ℕ) (s' : Stores) → records_from sheet program trace n end s' ≡ told_by (calls_from trace n end) s') → (b : Bool) (c : Cut)
+        by : ((end : ℕ) (s' : Stores) → records_from sheet program trace n end s' ≡ told_by (calls_from trace n end) s') → (b : Bool) (c : Option ℕ)
             → cond b (told [] s)
             (on_record c (bad_at sheet program trace at s)
             (λ end. on_turn (turn_of sheet program s (part trace (at + 2) end)) (bad_at sheet program trace at) (λ after. records_from sheet program trace n end after)))
             ≡ told_by (cond b (heard [] None)
             (in_record c (bad_from trace at) (λ end. calling (call_in (part trace (at + 2) end)) (bad_from trace at) (calls_from trace n end)))) s
         by ih true c = refl
-        by ih false Cut.Short = bad-told at s trace
-        by ih false (Cut.Whole end) =
+        by ih false None = bad-told at s trace
+        by ih false (Some end) =
             let body = part trace (at + 2) end in
             turn-told s body (record_of body outline_room).said (record_of body outline_room).outlines (bad_at sheet program trace at) (λ after. records_from sheet program trace n end after) (bad_from trace at) (calls_from trace n end) (bad-told at s trace) (ih end)
 

@@ -3,17 +3,16 @@ use Rattle.std.specs.Prelude.{cond, List, [], ◌∷◌, ℕ, zero, suc, ◌+◌
 use Rattle.cells.specs.Numbers.{part}
 use Rattle.attribute_records.specs.declared.Record.{Record}
 use Rattle.records.specs.Records.{record_end, record_of}
-use Rattle.records.specs.declared.Cut.{Cut}
 use Rattle.replies.specs.Replies.{popped_room}
 use Rattle.answers.specs.Answers.{outline_room}
 use Rattle.demand.specs.Statement.{HostCall, host_start_tag, host_attributes, host_end_tag}
 
 -- A record's call by what the record says: its body is the input that outlines speak of, and the ids of at most 256 popped elements have room.
-unfoldable pub call_by : (body : List ℕ) → Record → (outlines : List ℕ) → Option HostCall
-call_by body (Record.Start namespace) outlines = Some (host_start_tag namespace (part body 2 (length body)))
-call_by body (Record.Attributes closing n) outlines = Some (host_attributes closing body (part outlines 0 n))
-call_by body Record.End outlines = Some (host_end_tag (part body 1 (length body)) popped_room)
-call_by body Record.Faulty outlines = None
+unfoldable pub call_by : (body : List ℕ) → Option Record → (outlines : List ℕ) → Option HostCall
+call_by body (Some (Record.Start namespace)) outlines = Some (host_start_tag namespace (part body 2 (length body)))
+call_by body (Some (Record.Attributes closing n)) outlines = Some (host_attributes closing body (part outlines 0 n))
+call_by body (Some Record.End) outlines = Some (host_end_tag (part body 1 (length body)) popped_room)
+call_by body None outlines = None
 
 abbrev pub call_in : (body : List ℕ) → Option HostCall
 call_in body = call_by body (record_of body outline_room).said (record_of body outline_room).outlines
@@ -26,9 +25,9 @@ pub record Heard : Type 0 where
 abbrev pub heard : List HostCall → Option ℕ → Heard
 heard calls bad = record { calls = calls; bad = bad }
 
-unfoldable pub in_record : Cut → Heard → (ℕ → Heard) → Heard
-in_record Cut.Short bad go = bad
-in_record (Cut.Whole end) bad go = go end
+unfoldable pub in_record : Option ℕ → Heard → (ℕ → Heard) → Heard
+in_record None bad go = bad
+in_record (Some end) bad go = go end
 
 -- A call before others.
 unfoldable pub calling : Option HostCall → (bad go : Heard) → Heard

@@ -5,6 +5,7 @@ use Rattle.std.proofs.lemmas.Bool.{eqb-true}
 use Rattle.std.specs.Io.KnownBytes.{Consumes, IsAtEnd}
 use Rattle.cells.specs.Stretches.{cells_from, written, length-written, length-cells, cells_in}
 use Rattle.trace_blocks.specs.Progress.{Refilled, ReadOn, InFront}
+use Rattle.block_ends.specs.declared.Halt.{Halt}
 use Rattle.trace_blocks.specs.declared.Progress.{Progress}
 
 pub cells_are : (xs : List ℕ) (a n : ℕ) → a + n ≤ length xs → cells_from xs a n ≡ take n (drop a xs)
@@ -35,7 +36,7 @@ in_front p input mid input' kept inside fits is wrote front =
 pub read_on : (old new : Option (List ℕ)) (p : Progress) (input mid input' : List ℕ) (kept more : ℕ) → p.at ≤ p.end → p.end ≤ length input
     → kept ≡ p.end - p.at → mid ≡ written input 0 (cells_from input p.at (p.end - p.at))
     → take kept input' ≡ take kept mid → Consumes old new (take more (drop kept input')) → (more ≡ 0 → kept < length mid → IsAtEnd new)
-    → ReadOn old new p input (record { at = 0; end = kept + more; place = p.place; last = nat_eq more 0; hungry = false; over = false }) input'
+    → ReadOn old new p input (record { at = 0; end = kept + more; place = p.place; last = nat_eq more 0; halt = Halt.Full }) input'
 read_on old new p input mid input' kept more inside fits is wrote front taken end =
     let n = p.end - p.at in
     let long : length mid ≡ length input = ap length wrote ∙ length-written input 0 (cells_from input p.at n) in
@@ -51,7 +52,6 @@ read_on old new p input mid input' kept more inside fits is wrote front taken en
       at_end = λ e room. end (eqb-true more 0 e) (omega arith);
       some = λ e. some_read more kept n e is;
       place = refl;
-      eager = refl;
       goes_on = refl;
     }
   where

@@ -14,25 +14,13 @@ Sound p n = (p.at ≤ p.end) × (p.end ≤ n)
 abbrev pub run_of : (sheet program : List ℕ) → Progress → (input out : List ℕ) → Stores → Ran
 run_of sheet program p input out s = feed_of sheet program (slice_range input p.at p.end) p.last p.place out s
 
--- A run that ended for want of bytes.
-abbrev pub is_hungry : Halt → Bool
-is_hungry Halt.Hungry = true
-is_hungry Halt.Full = false
-is_hungry Halt.Over = false
-
--- A run that ended with all said.
-abbrev pub is_over : Halt → Bool
-is_over Halt.Over = true
-is_over Halt.Hungry = false
-is_over Halt.Full = false
-
 -- After a run over the buffer's bytes: what it used is behind.
 abbrev pub advanced : Progress → Fed → Progress
-advanced p f = record { at = p.at + f.used; end = p.end; place = p.place + f.used; last = p.last; hungry = is_hungry f.halt; over = is_over f.halt }
+advanced p f = record { at = p.at + f.used; end = p.end; place = p.place + f.used; last = p.last; halt = f.halt }
 
 -- More is wanted, and no bytes come any more: all is said.
 abbrev pub ended : Progress → Progress
-ended p = record { at = p.at; end = p.end; place = p.place; last = true; hungry = true; over = true }
+ended p = record { at = p.at; end = p.end; place = p.place; last = true; halt = Halt.Over }
 
 -- The bytes that were still to be read stand at the buffer's front.
 abbrev pub InFront : Progress → (input input' : List ℕ) → Type 0
@@ -49,8 +37,7 @@ pub record ReadOn (old new : Option (List ℕ)) (p : Progress) (input : List ℕ
   pub at_end : q.last ≡ true → p.end - p.at < length input → IsAtEnd new
   pub some : q.last ≡ false → p.end - p.at < q.end
   pub place : q.place ≡ p.place
-  pub eager : q.hungry ≡ false
-  pub goes_on : q.over ≡ false
+  pub goes_on : q.halt ≡ Halt.Full
 
 -- More is wanted.
 abbrev pub Refilled : (last : Bool) → (old new : Option (List ℕ)) → Progress → List ℕ → Progress → List ℕ → Type 0
@@ -58,7 +45,7 @@ Refilled true old new p input q input' = (q ≡ ended p) × (input' ≡ input) �
 Refilled false old new p input q input' = ReadOn old new p input q input'
 
 -- After the run: more is read only where it is wanted.
-abbrev pub Turned : (over hungry : Bool) → (old new : Option (List ℕ)) → Progress → List ℕ → Progress → List ℕ → Type 0
-Turned true hungry old new p input q input' = (q ≡ p) × (input' ≡ input) × Keeps old new
-Turned false false old new p input q input' = (q ≡ p) × (input' ≡ input) × Keeps old new
-Turned false true old new p input q input' = Refilled p.last old new p input q input'
+abbrev pub Turned : Halt → (old new : Option (List ℕ)) → Progress → List ℕ → Progress → List ℕ → Type 0
+Turned Halt.Over old new p input q input' = (q ≡ p) × (input' ≡ input) × Keeps old new
+Turned Halt.Full old new p input q input' = (q ≡ p) × (input' ≡ input) × Keeps old new
+Turned Halt.Hungry old new p input q input' = Refilled p.last old new p input q input'

@@ -15,29 +15,15 @@ use std::io::{ErrorKind, Read, Result, Write};
 use streams::{read_behind, read_between};
 use trace::feed;
 
-// The bytes of the input buffer that are still to be read, where they stand in the trace, whether the input has ended, whether
-// more is wanted, and whether all is said.
+// The bytes of the input buffer that are still to be read, where they stand in the trace, whether the input has ended, and how the
+// last run halted; `Full` where the next one may go on.
 #[derive(Clone, Copy)]
 pub struct Progress {
     pub at: usize,
     pub end: usize,
     pub place: u64,
     pub last: bool,
-    pub hungry: bool,
-    pub over: bool,
-}
-
-// One read behind the bytes that are kept, and how many it brought: none where the input ends.
-fn read_more<R: Read>(reader: &mut R, input: &mut [u8], kept: usize) -> Result<usize>
-    requires { kept ≤ length input.old }
-    ensures fits { IfOk result (λ n. kept + n ≤ length input.new) }
-    ensures front { take kept input.new ≡ take kept input.old }
-    ensures taken { IfOk result (λ n. Consumes (R.remaining reader.old) (R.remaining reader.new) (take n (drop kept input.new))) }
-    ensures at_end { IfOk result (λ n. n ≡ 0 → kept < length input.old → IsAtEnd (R.remaining reader.new)) }
-    ensures failed { OnErr result (Keeps (R.remaining reader.old) (R.remaining reader.new)) }
-    ensures retried { IfErr result (λ e. error_kind e ≢ ErrorKind.Interrupted) }
-{
-    read_behind(reader, input, kept)
+    pub halt: Halt,
 }
 
 // A record that was cut goes to the front of the buffer, and what is read stands behind it.
@@ -51,23 +37,18 @@ fn refill<R: Read>(reader: &mut R, p: Progress, input: &mut [u8]) -> Result<Prog
 {
     if p.last {
         return Ok(Progress {
-            at: p.at,
-            end: p.end,
-            place: p.place,
-            last: true,
-            hungry: true,
-            over: true,
+            halt: Halt::Over,
+            ..p
         });
     }
     let kept = keep(input, p.at, p.end);
-    let more = read_more(reader, input, kept)?;
+    let more = read_behind(reader, input, kept)?;
     Ok(Progress {
         at: 0,
         end: kept + more,
-        place: p.place,
         last: more == 0,
-        hungry: false,
-        over: false,
+        halt: Halt::Full,
+        ..p
     })
 }
 
@@ -77,23 +58,11 @@ fn advance(p: Progress, fed: Fed) -> Progress
     ensures bounds { (result.at ≤ result.end) × (result.end ≡ p.end) × (result.place ≤ p.place + 131072) }
     ensures value { result ≡ advanced p fed }
 {
-    let over = match fed.halt {
-        Halt::Over => true,
-        Halt::Hungry => false,
-        Halt::Full => false,
-    };
-    let hungry = match fed.halt {
-        Halt::Hungry => true,
-        Halt::Full => false,
-        Halt::Over => false,
-    };
     Progress {
         at: p.at + fed.used,
-        end: p.end,
         place: p.place + fed.used as u64,
-        last: p.last,
-        hungry: hungry,
-        over: over,
+        halt: fed.halt,
+        ..p
     }
 }
 
@@ -117,8 +86,6 @@ fn answer_block<W: Write>(
     // After a failed write nothing is known of what the writer took.
     ensures written { let run = run_of sheet.now program.now p input.now out.old (stores rows.old names.old ids.old nodes.old) in OnOk result (Appends (W.contents writer.old) (W.contents writer.new) (take run.fed.wrote run.out)) }
 {
-    let at = p.at;
-    let end = p.end;
     let fed = feed(
         sheet,
         program,
@@ -126,13 +93,12 @@ fn answer_block<W: Write>(
         names,
         ids,
         nodes,
-        &input[at..end],
+        &input[p.at..p.end],
         p.last,
         p.place,
         out,
     );
-    let wrote = fed.wrote;
-    writer.write_all(&out[0..wrote])?;
+    writer.write_all(&out[..fed.wrote])?;
     Ok(advance(p, fed))
 }
 
@@ -153,7 +119,7 @@ pub fn turn<R: Read, W: Write>(
     requires { Sound p (length input.old) × (length input.old ≡ 131072) × (length out.old ≡ 65536) × (p.place ≤ 9223372036854775808) }
     ensures sound { IfOk result (λ q. Sound q (length input.new) × (q.place ≤ p.place + 131072)) }
     ensures answered { let run = run_of sheet.now program.now p input.old out.old (stores rows.old names.old ids.old nodes.old) in (out.new ≡ run.out) × (stores rows.new names.new ids.new nodes.new ≡ run.after) }
-    ensures value { let run = run_of sheet.now program.now p input.old out.old (stores rows.old names.old ids.old nodes.old) in let next = advanced p run.fed in IfOk result (λ q. Turned next.over next.hungry (R.remaining reader.old) (R.remaining reader.new) next input.old q input.new) }
+    ensures value { let run = run_of sheet.now program.now p input.old out.old (stores rows.old names.old ids.old nodes.old) in let next = advanced p run.fed in IfOk result (λ q. Turned next.halt (R.remaining reader.old) (R.remaining reader.new) next input.old q input.new) }
     // After a failed write nothing is known of what the writer took.
     ensures written { let run = run_of sheet.now program.now p input.old out.old (stores rows.old names.old ids.old nodes.old) in OnOk result (Appends (W.contents writer.old) (W.contents writer.new) (take run.fed.wrote run.out)) }
     ensures failed { OnErr result (Keeps (R.remaining reader.old) (R.remaining reader.new)) }
@@ -162,13 +128,10 @@ pub fn turn<R: Read, W: Write>(
     let next = answer_block(
         writer, p, sheet, program, rows, names, ids, nodes, input, out,
     )?;
-    if next.over {
-        return Ok(next);
+    match next.halt {
+        Halt::Hungry => refill(reader, next, input),
+        _ => Ok(next),
     }
-    if !next.hungry {
-        return Ok(next);
-    }
-    refill(reader, next, input)
 }
 
 // Reads the sheet off the front of the input: as many bytes as its length field says, at most 65,536, or all there are.

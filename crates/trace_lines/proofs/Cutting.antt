@@ -26,7 +26,7 @@ module _ (sheet program : List ℕ) (v : ℕ) (bytes : List ℕ) (last : Bool) (
 
   begin-first : eqb v 1 ≡ true → answers_from sheet program (v ∷ bytes) last 0 (length (v ∷ bytes)) 1 0 out s ≡ feed_of sheet program (v ∷ bytes) last 0 out s
   unfolding feed_of feed_by begin_of
-  begin-first e = simp (some_bytes, e)
+  begin-first e = simp e
 
   begin-version : eqb v 1 ≡ false → bad_run 0 0 0 out s ≡ feed_of sheet program (v ∷ bytes) last 0 out s
   unfolding feed_of feed_by begin_of

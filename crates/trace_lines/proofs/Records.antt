@@ -1,12 +1,11 @@
 -- The lines of a trace, one step at a time; and a record of a block is a record of the trace that the block lies in.
-use Rattle.std.proofs.Common.{◌≡◌, ℕ, zero, suc, ◌+◌, ◌-◌, ◌<◌, ◌≤◌, List, [], ◌∷◌, ◌++◌, Bool, true, false, cond, refl, sym, ap, ◌∙◌, arith, length, drop, get_or}
+use Rattle.std.proofs.Common.{◌≡◌, ℕ, zero, suc, ◌+◌, ◌-◌, ◌<◌, ◌≤◌, List, [], ◌∷◌, ◌++◌, Bool, true, false, cond, Option, None, Some, refl, sym, ap, ◌∙◌, arith, length, drop, get_or}
 use Rattle.std.proofs.Math.Dec.{ltb, leb}
 use Rattle.std.proofs.Math.Seq.{drop-append-add}
 use Rattle.std.proofs.lemmas.Bool.{le-leb, lt-leb, leb-false, leb-true, ltb-true, ltb-false, lt-ltb, le-ltb}
 use Rattle.std.proofs.lemmas.List.{append-nil, length-append, length-drop, get_or-append-add, get_or_append_left, drop-append-le, take-append-le}
 use Rattle.cells.specs.Numbers.{part, be16}
 use Rattle.records.specs.Records.{record_end}
-use Rattle.records.specs.declared.Cut.{Cut}
 use Rattle.stack.specs.Stores.{Stores}
 use Rattle.answers.specs.Answers.{turn_of}
 use Rattle.replies.specs.Replies.{Turn}
@@ -20,11 +19,11 @@ module _ (sheet program trace : List ℕ) where
   rec-done zero at s h = refl
   rec-done (suc n) at s h = simp (le-leb _ _ h)
 
-  pub rec-cut : (n at : ℕ) (s : Stores) → at < length trace → record_end trace at ≡ Cut.Short → records_from sheet program trace (suc n) at s ≡ bad_at sheet program trace at s
+  pub rec-cut : (n at : ℕ) (s : Stores) → at < length trace → record_end trace at ≡ None → records_from sheet program trace (suc n) at s ≡ bad_at sheet program trace at s
   unfolding records_from on_record
   rec-cut n at s h e = simp (lt-leb _ _ h, e)
 
-  pub rec-turn : (n at : ℕ) (s : Stores) (end : ℕ) → at < length trace → record_end trace at ≡ Cut.Whole end
+  pub rec-turn : (n at : ℕ) (s : Stores) (end : ℕ) → at < length trace → record_end trace at ≡ Some end
       → records_from sheet program trace (suc n) at s ≡ on_turn (turn_of sheet program s (part trace (at + 2) end)) (bad_at sheet program trace at) (λ after. records_from sheet program trace n end after)
   unfolding records_from on_record
   rec-turn n at s end h e = simp (lt-leb _ _ h, e)
@@ -35,31 +34,31 @@ turn-alike (Turn.line text after) bad go go' h = ap (λ (x : Told). following (t
 turn-alike (Turn.faulty after) bad go go' h = refl
 
 -- A whole record ends in its bytes, two further at least.
-pub whole_in : (block : List ℕ) (at end : ℕ) → record_end block at ≡ Cut.Whole end → (end ≡ at + 2 + be16 block at) × (end ≤ length block)
+pub whole_in : (block : List ℕ) (at end : ℕ) → record_end block at ≡ Some end → (end ≡ at + 2 + be16 block at) × (end ≤ length block)
 unfolding record_end
 whole_in block at end e = by (ltb (length block) (at + 2 + be16 block at)) refl e
   where
-    by : (b : Bool) → ltb (length block) (at + 2 + be16 block at) ≡ b → cond b Cut.Short (Cut.Whole (at + 2 + be16 block at)) ≡ Cut.Whole end → (end ≡ at + 2 + be16 block at) × (end ≤ length block)
+    by : (b : Bool) → ltb (length block) (at + 2 + be16 block at) ≡ b → cond b None (Some (at + 2 + be16 block at)) ≡ Some end → (end ≡ at + 2 + be16 block at) × (end ≤ length block)
     by true t q = let z : ◌≡◌ {A = ℕ} 0 1 = cc in absurd (omega arith)
     by false t q =
         let l = ltb-false (length block) (at + 2 + be16 block at) t in
         let z : end ≡ at + 2 + be16 block at = cc in
         (z, omega arith)
 
-pub short-past : (block : List ℕ) (at : ℕ) → record_end block at ≡ Cut.Short → length block < at + 2 + be16 block at
+pub short-past : (block : List ℕ) (at : ℕ) → record_end block at ≡ None → length block < at + 2 + be16 block at
 unfolding record_end
 short-past block at e = by (ltb (length block) (at + 2 + be16 block at)) refl e
   where
-    by : (b : Bool) → ltb (length block) (at + 2 + be16 block at) ≡ b → cond b Cut.Short (Cut.Whole (at + 2 + be16 block at)) ≡ Cut.Short → length block < at + 2 + be16 block at
+    by : (b : Bool) → ltb (length block) (at + 2 + be16 block at) ≡ b → cond b None (Some (at + 2 + be16 block at)) ≡ None → length block < at + 2 + be16 block at
     by true t q = ltb-true (length block) (at + 2 + be16 block at) t
     by false t q = let z : ◌≡◌ {A = ℕ} 0 1 = cc in absurd (omega arith)
 
 module _ (block : List ℕ) (at : ℕ) where
-  pub whole-is : (n : ℕ) → be16 block at ≡ n → at + 2 + n ≤ length block → record_end block at ≡ Cut.Whole (at + 2 + n)
+  pub whole-is : (n : ℕ) → be16 block at ≡ n → at + 2 + n ≤ length block → record_end block at ≡ Some (at + 2 + n)
   unfolding record_end
   whole-is n e h = simp (e, le-ltb _ _ h)
 
-  pub short_is : (n : ℕ) → be16 block at ≡ n → length block < at + 2 + n → record_end block at ≡ Cut.Short
+  pub short_is : (n : ℕ) → be16 block at ≡ n → length block < at + 2 + n → record_end block at ≡ None
   unfolding record_end
   short_is n e h = simp (e, lt-ltb _ _ h)
 
@@ -70,9 +69,9 @@ module _ (sheet program trace : List ℕ) where
   enough (suc n) zero at s h g = rec-done sheet program trace (suc n) at s (omega arith) ∙ sym (rec-done sheet program trace zero at s (omega arith))
   enough (suc n) (suc m) at s h g = by (leb (length trace) at) refl (λ end after p q. enough n m end after p q)
     where
-      rest : ((end : ℕ) (after : Stores) → length trace ≤ end + n → length trace ≤ end + m → records_from sheet program trace n end after ≡ records_from sheet program trace m end after) → at < length trace → (c : Cut) → record_end trace at ≡ c → records_from sheet program trace (suc n) at s ≡ records_from sheet program trace (suc m) at s
-      rest ih l Cut.Short e = rec-cut sheet program trace n at s l e ∙ sym (rec-cut sheet program trace m at s l e)
-      rest ih l (Cut.Whole end) e =
+      rest : ((end : ℕ) (after : Stores) → length trace ≤ end + n → length trace ≤ end + m → records_from sheet program trace n end after ≡ records_from sheet program trace m end after) → at < length trace → (c : Option ℕ) → record_end trace at ≡ c → records_from sheet program trace (suc n) at s ≡ records_from sheet program trace (suc m) at s
+      rest ih l None e = rec-cut sheet program trace n at s l e ∙ sym (rec-cut sheet program trace m at s l e)
+      rest ih l (Some end) e =
           let w = whole_in trace at end e in
           rec-turn sheet program trace n at s end l e
           ∙ turn-alike (turn_of sheet program s (part trace (at + 2) end)) (bad_at sheet program trace at) (λ after. records_from sheet program trace n end after) (λ after. records_from sheet program trace m end after) (λ after. ih end after (omega arith) (omega arith))
@@ -100,13 +99,13 @@ module _ (before block more : List ℕ) where
   unfolding be16
   length_in at h = let e : length before + at + 1 ≡ length before + (at + 1) = omega arith in rw (e, byte_in at (omega arith), byte_in (at + 1) h)
 
-  pub whole-inside : (at end : ℕ) → record_end block at ≡ Cut.Whole end → record_end all (length before + at) ≡ Cut.Whole (length before + end)
+  pub whole-inside : (at end : ℕ) → record_end block at ≡ Some end → record_end all (length before + at) ≡ Some (length before + end)
   whole-inside at end e =
       let w = whole_in block at end e in
       let l = long in
       let n = be16 block at in
       let k : length before + at + 2 + n ≡ length before + end = omega arith in
-      whole-is all (length before + at) n (length_in at (omega arith)) (omega arith) ∙ ap Cut.Whole k
+      whole-is all (length before + at) n (length_in at (omega arith)) (omega arith) ∙ ap Some k
 
   pub part-inside : (at end : ℕ) → at ≤ end → end ≤ length block → part all (length before + at) (length before + end) ≡ part block at end
   part-inside at end h g =
@@ -120,7 +119,7 @@ module _ (before block : List ℕ) where
   last_byte : (i : ℕ) → get_or (before ++ (block ++ [])) (length before + i) 0 ≡ get_or block i 0
   last_byte i = get_or-append-add before (block ++ []) i 0 ∙ ap (λ (l : List ℕ). get_or l i 0) (append-nil block)
 
-  pub short-inside : (at : ℕ) → record_end block at ≡ Cut.Short → record_end (before ++ (block ++ [])) (length before + at) ≡ Cut.Short
+  pub short-inside : (at : ℕ) → record_end block at ≡ None → record_end (before ++ (block ++ [])) (length before + at) ≡ None
   unfolding be16
   short-inside at e =
       let l = long before block [] in

@@ -1,5 +1,5 @@
 -- A line is short: no answer's is longer than the 8,192 bytes of room that a run wants before each record.
-use Rattle.std.proofs.Common.{◌≡◌, ℕ, zero, suc, ◌+◌, ◌-◌, ◌*◌, ◌/◌, ◌%◌, ◌≤◌, List, [], ◌∷◌, ◌++◌, Bool, true, false, cond, not, refl, ◌∙◌, arith, length, length-set}
+use Rattle.std.proofs.Common.{◌≡◌, ℕ, zero, suc, ◌+◌, ◌-◌, ◌*◌, ◌/◌, ◌%◌, ◌≤◌, List, [], ◌∷◌, ◌++◌, Bool, true, false, cond, not, Option, None, Some, refl, ◌∙◌, arith, length, length-set}
 use Rattle.std.specs.Prelude.{map}
 use Rattle.std.proofs.Math.Dec.{ltb, eqb}
 use Rattle.std.proofs.lemmas.List.{length-append}
@@ -149,12 +149,12 @@ abbrev pub ShortTurn : Turn → Type 0
 ShortTurn (Turn.line text after) = length text ≤ 8192
 ShortTurn (Turn.faulty after) = Unit {0}
 
-turn-by-short : (sheet program : List ℕ) (s : Stores) (body : List ℕ) (r : Record) (outlines : List ℕ) → ShortTurn (turn_by sheet program s body r outlines)
+turn-by-short : (sheet program : List ℕ) (s : Stores) (body : List ℕ) (r : Option Record) (outlines : List ℕ) → ShortTurn (turn_by sheet program s body r outlines)
 unfolding turn_by spoken end_turn Short
-turn-by-short sheet program s body (Record.Start namespace) outlines = start-short sheet program s namespace (part body 2 (length body))
-turn-by-short sheet program s body (Record.Attributes closing n) outlines = attributes-short sheet program s closing body (part outlines 0 n)
-turn-by-short sheet program s body Record.End outlines = popped-short (end_call sheet program s (part body 1 (length body)) popped_room).answer
-turn-by-short sheet program s body Record.Faulty outlines = tt
+turn-by-short sheet program s body (Some (Record.Start namespace)) outlines = start-short sheet program s namespace (part body 2 (length body))
+turn-by-short sheet program s body (Some (Record.Attributes closing n)) outlines = attributes-short sheet program s closing body (part outlines 0 n)
+turn-by-short sheet program s body (Some Record.End) outlines = popped-short (end_call sheet program s (part body 1 (length body)) popped_room).answer
+turn-by-short sheet program s body None outlines = tt
 
 pub turn-short : (sheet program : List ℕ) (s : Stores) (body : List ℕ) → ShortTurn (turn_of sheet program s body)
 unfolding turn_of

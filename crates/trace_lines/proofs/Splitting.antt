@@ -1,5 +1,5 @@
 -- A run over a block says the front of what its trace is answered by.
-use Rattle.std.proofs.Common.{◌≡◌, ℕ, zero, suc, ◌+◌, ◌-◌, ◌<◌, ◌≤◌, List, [], ◌∷◌, ◌++◌, Bool, true, false, cond, refl, sym, ap, subst, ◌∙◌, arith, length, take, drop, get_or}
+use Rattle.std.proofs.Common.{◌≡◌, ℕ, zero, suc, ◌+◌, ◌-◌, ◌<◌, ◌≤◌, List, [], ◌∷◌, ◌++◌, Bool, true, false, cond, Option, None, Some, refl, sym, ap, subst, ◌∙◌, arith, length, take, drop, get_or}
 use Rattle.std.proofs.Math.Dec.{ltb, leb}
 use Rattle.std.proofs.Math.Seq.{drop-cons}
 use Rattle.std.proofs.lemmas.Bool.{le-leb, lt-leb, leb-false, leb-true, ltb-true, ltb-false, lt-ltb, le-ltb}
@@ -8,7 +8,6 @@ use Rattle.cells.specs.Numbers.{part}
 use Rattle.cells.specs.Stretches.{cells_from, written, length-written, cells_in, cells-below, cells-cat}
 use Rattle.lines.specs.Lines.{bad_trace_line}
 use Rattle.records.specs.Records.{record_end}
-use Rattle.records.specs.declared.Cut.{Cut}
 use Rattle.stack.specs.Stores.{Stores}
 use Rattle.answers.specs.Answers.{turn_of}
 use Rattle.replies.specs.Replies.{Turn, saying}
@@ -52,7 +51,7 @@ module _ (sheet program block : List ℕ) (last : Bool) (place : ℕ) where
       turn ih end (Turn.line text after) = let g = ih end (wrote + length text) (written out wrote text) after in omega arith
       turn ih end (Turn.faulty after) = omega arith
 
-      by : ((end next : ℕ) (out' : List ℕ) (s' : Stores) → next ≤ (answers_from sheet program block last place n end next out' s').fed.wrote) → (b c : Bool) (r : Cut) → wrote ≤ (cond b (ran (fed at wrote Halt.Hungry) out s)
+      by : ((end next : ℕ) (out' : List ℕ) (s' : Stores) → next ≤ (answers_from sheet program block last place n end next out' s').fed.wrote) → (b c : Bool) (r : Option ℕ) → wrote ≤ (cond b (ran (fed at wrote Halt.Hungry) out s)
           (cond c (ran (fed at wrote Halt.Full) out s)
           (on_cut r
           (cut_run last place at wrote out s)
@@ -61,8 +60,8 @@ module _ (sheet program block : List ℕ) (last : Bool) (place : ℕ) where
           (λ next out' s'. answers_from sheet program block last place n end next out' s'))))).fed.wrote
       by ih true c r = omega arith
       by ih false true r = omega arith
-      by ih false false Cut.Short = cut last
-      by ih false false (Cut.Whole end) = turn ih end (turn_of sheet program s (part block (at + 2) end))
+      by ih false false None = cut last
+      by ih false false (Some end) = turn ih end (turn_of sheet program s (part block (at + 2) end))
 
 -- ---- the run over a block, one step at a time
 
@@ -77,11 +76,11 @@ module _ (sheet program block : List ℕ) (last : Bool) (place : ℕ) where
     unfolding answers_from
     run-full g = simp (lt-leb _ _ h, lt-ltb _ _ g)
 
-    run-cut : 8192 ≤ length out - wrote → record_end block at ≡ Cut.Short → cut_run last place at wrote out s ≡ answers_from sheet program block last place (suc n) at wrote out s
+    run-cut : 8192 ≤ length out - wrote → record_end block at ≡ None → cut_run last place at wrote out s ≡ answers_from sheet program block last place (suc n) at wrote out s
     unfolding answers_from on_cut
     run-cut g e = simp (lt-leb _ _ h, le-ltb _ _ g, e)
 
-    module _ (g : 8192 ≤ length out - wrote) (end : ℕ) (e : record_end block at ≡ Cut.Whole end) (after : Stores) where
+    module _ (g : 8192 ≤ length out - wrote) (end : ℕ) (e : record_end block at ≡ Some end) (after : Stores) where
       run-faulty : turn_of sheet program s (part block (at + 2) end) ≡ Turn.faulty after → bad_run place at wrote out after ≡ answers_from sheet program block last place (suc n) at wrote out s
       unfolding answers_from on_cut on_said saying
       run-faulty t = simp (lt-leb _ _ h, le-ltb _ _ g, e, t)
@@ -159,15 +158,15 @@ module _ (sheet program before block more : List ℕ) (last : Bool) (ends : last
     inside : length before + at < length trace_of
     inside = let l = long before block more in omega arith
 
-    step-cut : last ≡ true → record_end block at ≡ Cut.Short → (m : ℕ) → length trace_of ≤ length before + at + m
+    step-cut : last ≡ true → record_end block at ≡ None → (m : ℕ) → length trace_of ≤ length before + at + m
         → bad_at sheet program trace_of (length before + at) s ≡ records_from sheet program trace_of m (length before + at) s
     step-cut l e zero g = let i = inside in absurd (let q : ⊥ = omega arith in q)
     step-cut l e (suc m) g = sym (rec-cut sheet program trace_of m (length before + at) s inside short)
       where
-        short : record_end trace_of (length before + at) ≡ Cut.Short
+        short : record_end trace_of (length before + at) ≡ None
         short = rw (ends l) (short-inside before block at e)
 
-    step-turn : (end : ℕ) (t : Turn) → record_end block at ≡ Cut.Whole end → turn_of sheet program s (part block (at + 2) end) ≡ t → (m : ℕ) → length trace_of ≤ length before + at + suc m
+    step-turn : (end : ℕ) (t : Turn) → record_end block at ≡ Some end → turn_of sheet program s (part block (at + 2) end) ≡ t → (m : ℕ) → length trace_of ≤ length before + at + suc m
         → on_turn t (bad_at sheet program trace_of (length before + at)) (λ after. records_from sheet program trace_of m (length before + end) after) ≡ records_from sheet program trace_of (suc m) (length before + at) s
     step-turn end t e q m g =
         let w = whole_in block at end e in
@@ -176,14 +175,14 @@ module _ (sheet program before block more : List ℕ) (last : Bool) (ends : last
         ∙ ap (λ (x : Turn). on_turn x (bad_at sheet program trace_of (length before + at)) (λ after. records_from sheet program trace_of m (length before + end) after)) (turn_inside at end s (omega arith) (omega arith) ∙ q)
         )
 
-    step-faulty : (end : ℕ) (after : Stores) → record_end block at ≡ Cut.Whole end → turn_of sheet program s (part block (at + 2) end) ≡ Turn.faulty after → (m : ℕ) → length trace_of ≤ length before + at + m
+    step-faulty : (end : ℕ) (after : Stores) → record_end block at ≡ Some end → turn_of sheet program s (part block (at + 2) end) ≡ Turn.faulty after → (m : ℕ) → length trace_of ≤ length before + at + m
         → bad_at sheet program trace_of (length before + at) after ≡ records_from sheet program trace_of m (length before + at) s
     unfolding on_turn
     step-faulty end after e q zero g = let i = inside in absurd (let q : ⊥ = omega arith in q)
     step-faulty end after e q (suc m) g = step-turn end (Turn.faulty after) e q m g
 
     -- a line, and what is said from the next record on
-    step_line : (end wrote : ℕ) (out text : List ℕ) (after : Stores) (r : Ran) → record_end block at ≡ Cut.Whole end → turn_of sheet program s (part block (at + 2) end) ≡ Turn.line text after
+    step_line : (end wrote : ℕ) (out text : List ℕ) (after : Stores) (r : Ran) → record_end block at ≡ Some end → turn_of sheet program s (part block (at + 2) end) ≡ Turn.line text after
         → wrote + length text ≤ length out
         → Says sheet program trace_of last (length before) (length before + end) (wrote + length text) (written out wrote text) after r
         → Says sheet program trace_of last (length before) (length before + at) wrote out s r
@@ -212,11 +211,11 @@ module _ (sheet program before block more : List ℕ) (last : Bool) (ends : last
   run-says zero at wrote out s h g p f = subst (SaysFrom at wrote out s) (run-done sheet program block last (length before) zero at wrote out s (omega arith)) (λ f. says-hungry sheet program trace_of last (length before) at wrote out s p (to_end at (omega arith))) f
   run-says (suc n) at wrote out s h g p f = by (λ end wrote out s h g p f. run-says n end wrote out s h g p f) (leb (length block) at) refl f
     where
-      cut : (l : Bool) → last ≡ l → at < length block → record_end block at ≡ Cut.Short → SaysFrom at wrote out s (cut_run l (length before) at wrote out s)
+      cut : (l : Bool) → last ≡ l → at < length block → record_end block at ≡ None → SaysFrom at wrote out s (cut_run l (length before) at wrote out s)
       cut true e i c f = says-bad sheet program trace_of last (length before) at wrote out s s (step-cut at s i e c) f
       cut false e i c f = says-hungry sheet program trace_of last (length before) at wrote out s p (λ l. false_no e l)
 
-      turn : ((end wrote : ℕ) (out : List ℕ) (s : Stores) → end ≤ length block → length block ≤ end + n → 0 < length before + end → SaysFrom end wrote out s (run_from n end wrote out s)) → at < length block → 8192 ≤ length out - wrote → (end : ℕ) → record_end block at ≡ Cut.Whole end → (t : Turn) → turn_of sheet program s (part block (at + 2) end) ≡ t → SaysFrom at wrote out s (run_from (suc n) at wrote out s)
+      turn : ((end wrote : ℕ) (out : List ℕ) (s : Stores) → end ≤ length block → length block ≤ end + n → 0 < length before + end → SaysFrom end wrote out s (run_from n end wrote out s)) → at < length block → 8192 ≤ length out - wrote → (end : ℕ) → record_end block at ≡ Some end → (t : Turn) → turn_of sheet program s (part block (at + 2) end) ≡ t → SaysFrom at wrote out s (run_from (suc n) at wrote out s)
       turn ih i r end c (Turn.faulty after) q f =
           subst (SaysFrom at wrote out s) (run-faulty sheet program block last (length before) n at wrote out s i r end c after q) (λ f. says-bad sheet program trace_of last (length before) at wrote out s after (step-faulty at s i end after c q) f) f
       turn ih i r end c (Turn.line text after) q f =
@@ -228,9 +227,9 @@ module _ (sheet program before block more : List ℕ) (last : Bool) (ends : last
           step_line at s i end wrote out text after (run_from n end (wrote + length text) (written out wrote text) after) c q (omega arith)
           (ih end (wrote + length text) (written out wrote text) after (omega arith) (omega arith) (omega arith) (omega arith))) f
 
-      room : ((end wrote : ℕ) (out : List ℕ) (s : Stores) → end ≤ length block → length block ≤ end + n → 0 < length before + end → SaysFrom end wrote out s (run_from n end wrote out s)) → at < length block → 8192 ≤ length out - wrote → (c : Cut) → record_end block at ≡ c → SaysFrom at wrote out s (run_from (suc n) at wrote out s)
-      room ih i r Cut.Short c f = subst (SaysFrom at wrote out s) (run-cut sheet program block last (length before) n at wrote out s i r c) (cut last refl i c) f
-      room ih i r (Cut.Whole end) c f = turn ih i r end c (turn_of sheet program s (part block (at + 2) end)) refl f
+      room : ((end wrote : ℕ) (out : List ℕ) (s : Stores) → end ≤ length block → length block ≤ end + n → 0 < length before + end → SaysFrom end wrote out s (run_from n end wrote out s)) → at < length block → 8192 ≤ length out - wrote → (c : Option ℕ) → record_end block at ≡ c → SaysFrom at wrote out s (run_from (suc n) at wrote out s)
+      room ih i r None c f = subst (SaysFrom at wrote out s) (run-cut sheet program block last (length before) n at wrote out s i r c) (cut last refl i c) f
+      room ih i r (Some end) c f = turn ih i r end c (turn_of sheet program s (part block (at + 2) end)) refl f
 
       some : ((end wrote : ℕ) (out : List ℕ) (s : Stores) → end ≤ length block → length block ≤ end + n → 0 < length before + end → SaysFrom end wrote out s (run_from n end wrote out s)) → at < length block → (b : Bool) → ltb (length out - wrote) 8192 ≡ b → SaysFrom at wrote out s (run_from (suc n) at wrote out s)
       some ih i true e f = subst (SaysFrom at wrote out s) (run-full sheet program block last (length before) n at wrote out s i (ltb-true (length out - wrote) 8192 e)) (λ f. says-full sheet program trace_of last (length before) at wrote out s p) f

@@ -1,7 +1,6 @@
 -- A trace cut into blocks: what runs over them write is the text of the trace's lines, wherever the cuts fall.
-use Rattle.std.specs.Prelude.{◌≡◌, ◌≢◌, Bool, true, List, [], ◌++◌, ℕ, ◌+◌, ◌<◌, ◌≤◌, length, take}
+use Rattle.std.specs.Prelude.{◌≡◌, ◌≢◌, Bool, true, List, [], ◌++◌, ℕ, ◌+◌, ◌<◌, ◌≤◌, None, length, take}
 use Rattle.records.specs.Records.{record_end}
-use Rattle.records.specs.declared.Cut.{Cut}
 use Rattle.stack.specs.Stores.{Stores}
 use Rattle.block_ends.specs.declared.Fed.{Fed}
 use Rattle.block_ends.specs.declared.Halt.{Halt}
@@ -19,7 +18,7 @@ pub record Stands (trace block : List ℕ) (last : Bool) (place : ℕ) : Type 0 
 -- Where a run stops: in its block; for want of bytes only where the next record isn't whole, for want of room only where a line's is not left.
 pub record Stops (block : List ℕ) (room : ℕ) (f : Fed) : Type 0 where
   pub inside : f.used ≤ length block
-  pub hungry : f.halt ≡ Halt.Hungry → record_end block f.used ≡ Cut.Short
+  pub hungry : f.halt ≡ Halt.Hungry → record_end block f.used ≡ None
   pub full : f.halt ≡ Halt.Full → room < f.wrote + 8192
 
 module _ (sheet program trace : List ℕ) where

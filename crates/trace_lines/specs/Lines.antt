@@ -1,9 +1,8 @@
 -- What a whole trace is answered by, whatever blocks it comes in and whatever room its lines have (01, section 8).
-use Rattle.std.specs.Prelude.{cond, List, [], ◌∷◌, ◌++◌, ℕ, zero, suc, ◌+◌, eqb, ltb, leb, length, get_or}
+use Rattle.std.specs.Prelude.{cond, List, [], ◌∷◌, ◌++◌, ℕ, zero, suc, ◌+◌, Option, None, Some, eqb, ltb, leb, length, get_or}
 use Rattle.cells.specs.Numbers.{part}
 use Rattle.lines.specs.Lines.{bad_trace_line}
 use Rattle.records.specs.Records.{record_end}
-use Rattle.records.specs.declared.Cut.{Cut}
 use Rattle.stack.specs.Stores.{Stores}
 use Rattle.answers.specs.Answers.{turn_of}
 use Rattle.replies.specs.Replies.{Turn}
@@ -25,9 +24,9 @@ unfoldable pub text_of : List (List ℕ) → List ℕ
 text_of [] = []
 text_of (line ∷ lines) = line ++ text_of lines
 
-unfoldable pub on_record : Cut → Told → (ℕ → Told) → Told
-on_record Cut.Short bad go = bad
-on_record (Cut.Whole end) bad go = go end
+unfoldable pub on_record : Option ℕ → Told → (ℕ → Told) → Told
+on_record None bad go = bad
+on_record (Some end) bad go = go end
 
 unfoldable pub on_turn : Turn → (bad go : Stores → Told) → Told
 on_turn (Turn.line text after) bad go = following (text ∷ []) (go after)

@@ -9,7 +9,7 @@ use Rattle.stack.specs.Stores.{Stores}
 use Rattle.block_ends.specs.declared.Fed.{Fed}
 use Rattle.block_ends.specs.declared.Halt.{Halt}
 use Rattle.trace.specs.Run.{Ran}
-use Rattle.trace_blocks.specs.Progress.{run_of, advanced, is_hungry, is_over, ReadOn, Refilled, Turned}
+use Rattle.trace_blocks.specs.Progress.{run_of, advanced, ReadOn, Refilled, Turned}
 use Rattle.trace_blocks.specs.declared.Progress.{Progress}
 use Rattle.trace_lines.specs.Cuttings as cuttings
 use Rattle.trace_lines.specs.Cuttings.{Stands, Feeds, Cutting, said, onwards}
@@ -88,9 +88,9 @@ reads-more trace p input rest q input' rest' r o room =
 
 -- How a turn ends.
 data Step (trace : List ℕ) (p : Progress) (f : Fed) (q : Progress) (input' rest' : List ℕ) : Type 0 where
-  over : f.halt ≡ Halt.Over → q.over ≡ true → Step trace p f q input' rest'
-  at_end : p.last ≡ true → f.halt ≡ Halt.Hungry → q.over ≡ true → Step trace p f q input' rest'
-  goes : (f.halt ≡ Halt.Over → ⊥) → q.over ≡ false → q.place ≡ p.place + f.used → Reads trace q input' rest' → Step trace p f q input' rest'
+  over : f.halt ≡ Halt.Over → q.halt ≡ Halt.Over → Step trace p f q input' rest'
+  at_end : p.last ≡ true → f.halt ≡ Halt.Hungry → q.halt ≡ Halt.Over → Step trace p f q input' rest'
+  goes : (f.halt ≡ Halt.Over → ⊥) → (q.halt ≡ Halt.Over → ⊥) → q.place ≡ p.place + f.used → Reads trace q input' rest' → Step trace p f q input' rest'
 
 no-over : (h : Halt) → h ≡ Halt.Full → h ≡ Halt.Over → ⊥
 no-over h e f = let z : ◌≡◌ {A = ℕ} 0 1 = cc in omega arith
@@ -104,17 +104,17 @@ module _ (trace : List ℕ) (p : Progress) (input rest : List ℕ) (f : Fed) (q 
     on = let l = slice-length input p.at p.end sound inside in let u = b.0 in reads-on trace p input rest f r u (omega arith)
 
     refilled : (l : Bool) → p.last ≡ l → f.halt ≡ Halt.Hungry → Refilled l (Some rest) (Some rest') (advanced p f) input q input' → Step trace p f q input' rest'
-    refilled true e h t = at_end e h (ap (λ (x : Progress). x.over) t.0)
+    refilled true e h t = at_end e h (ap (λ (x : Progress). x.halt) t.0)
     refilled false e h t =
         let l = slice-length input p.at p.end sound inside in
         let u = b.0 in
         let w = b.1 h in
-        goes (hungry-over f.halt h) t.goes_on t.place (reads-more trace (advanced p f) input rest q input' rest' on t (omega arith))
+        goes (hungry-over f.halt h) (no-over q.halt t.goes_on) t.place (reads-more trace (advanced p f) input rest q input' rest' on t (omega arith))
 
-    stepped : (h : Halt) → f.halt ≡ h → Turned (is_over h) (is_hungry h) (Some rest) (Some rest') (advanced p f) input q input' → Step trace p f q input' rest'
-    stepped Halt.Over e t = over e (ap (λ (x : Progress). x.over) t.0 ∙ ap is_over e)
+    stepped : (h : Halt) → f.halt ≡ h → Turned h (Some rest) (Some rest') (advanced p f) input q input' → Step trace p f q input' rest'
+    stepped Halt.Over e t = over e (ap (λ (x : Progress). x.halt) t.0 ∙ e)
     stepped Halt.Full e t =
-        goes (no-over f.halt e) (ap (λ (x : Progress). x.over) t.0 ∙ ap is_over e) (ap (λ (x : Progress). x.place) t.0)
+        goes (no-over f.halt e) (no-over q.halt (ap (λ (x : Progress). x.halt) t.0 ∙ e)) (ap (λ (x : Progress). x.place) t.0)
         (subst (λ (x : Progress). Reads trace x input' rest') (sym t.0) (subst (λ (l : List ℕ). Reads trace (advanced p f) l rest') (sym t.1) (subst (λ (l : List ℕ). Reads trace (advanced p f) input l) (sym t.2) on)))
     stepped Halt.Hungry e t = refilled p.last refl e t
 
@@ -138,15 +138,15 @@ module _ (sheet program trace : List ℕ) (bytes : (i : ℕ) → get_or trace i 
         let all : (i : ℕ) → get_or block i 0 < 256 = bytes_in r.before block rest (subst (λ (l : List ℕ). (i : ℕ) → get_or l i 0 < 256) (sym r.is) bytes) in
         stepped trace p input rest ran.fed q input' rest' r o.sound.0 o.sound.1 o.block (feed-bounded sheet program block p.last p.place out s all) ran.fed.halt refl o.value
 
-    last-cuts : (q : Progress) (input' rest' : List ℕ) → length out ≡ 65536 → q.over ≡ true → Step trace p ran.fed q input' rest' → Cutting sheet program trace p.place s (take ran.fed.wrote ran.out) ran.after
+    last-cuts : (q : Progress) (input' rest' : List ℕ) → length out ≡ 65536 → q.halt ≡ Halt.Over → Step trace p ran.fed q input' rest' → Cutting sheet program trace p.place s (take ran.fed.wrote ran.out) ran.after
     last-cuts q input' rest' room e (over h f) = said ran (feeds room) h
     last-cuts q input' rest' room e (at_end l h f) = cuttings.ended ran (subst (λ (b : Bool). Feeds sheet program trace p.place s b ran) l (feeds room)) h
-    last-cuts q input' rest' room e (goes h f place reads) = false_no f e
+    last-cuts q input' rest' room e (goes h f place reads) = absurd (f e)
 
-    next-cuts : (q : Progress) (input' rest' text : List ℕ) (after : Stores) → length out ≡ 65536 → q.over ≡ false → Step trace p ran.fed q input' rest'
+    next-cuts : (q : Progress) (input' rest' text : List ℕ) (after : Stores) → length out ≡ 65536 → (q.halt ≡ Halt.Over → ⊥) → Step trace p ran.fed q input' rest'
         → (Reads trace q input' rest' → Cutting sheet program trace q.place ran.after text after) → Cutting sheet program trace p.place s (take ran.fed.wrote ran.out ++ text) after
-    next-cuts q input' rest' text after room e (over h f) ih = false_no e f
-    next-cuts q input' rest' text after room e (at_end l h f) ih = false_no e f
+    next-cuts q input' rest' text after room e (over h f) ih = absurd (e f)
+    next-cuts q input' rest' text after room e (at_end l h f) ih = absurd (e f)
     next-cuts q input' rest' text after room e (goes h f place reads) ih = onwards ran (feeds room) h (subst (λ (k : ℕ). Cutting sheet program trace k ran.after text after) place (ih reads))
 
   turns-from : (p : Progress) (input rest : List ℕ) (s : Stores) (text : List ℕ) (after : Stores) → Reads trace p input rest → Turns sheet program p input rest s text after → Cutting sheet program trace p.place s text after

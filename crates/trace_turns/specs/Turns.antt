@@ -1,6 +1,7 @@
 -- The program's turns over a trace: a reader whose bytes are the trace, a buffer that its blocks stand in, and a buffer of lines.
-use Rattle.std.specs.Prelude.{◌≡◌, true, false, List, ◌++◌, ℕ, ◌<◌, Some, length, take, get_or}
+use Rattle.std.specs.Prelude.{◌≡◌, ◌≢◌, false, List, ◌++◌, ℕ, ◌<◌, Some, length, take, get_or}
 use Rattle.stack.specs.Stores.{Stores}
+use Rattle.block_ends.specs.declared.Halt.{Halt}
 use Rattle.trace_blocks.specs.Progress.{Sound, run_of, advanced, Turned}
 use Rattle.trace_blocks.specs.declared.Progress.{Progress}
 use Rattle.trace_lines.specs.Lines.{text_of, lines_of}
@@ -8,7 +9,7 @@ use Rattle.trace_lines.specs.Cuttings.{Cutting}
 
 -- Nothing is read yet.
 abbrev pub at_start : Progress
-at_start = record { at = 0; end = 0; place = 0; last = false; hungry = false; over = false }
+at_start = record { at = 0; end = 0; place = 0; last = false; halt = Halt.Full }
 
 module _ (sheet program : List ℕ) where
   -- One turn, as `turn` promises it: it runs over what the buffer holds, and reads on where more is wanted. `rest` is what the reader has left.
@@ -16,13 +17,13 @@ module _ (sheet program : List ℕ) where
     pub sound : Sound p (length input)
     pub block : length input ≡ 131072
     pub room : length out ≡ 65536
-    pub value : let next = advanced p (run_of sheet program p input out s).fed in Turned next.over next.hungry (Some rest) (Some rest') next input q input'
+    pub value : let next = advanced p (run_of sheet program p input out s).fed in Turned next.halt (Some rest) (Some rest') next input q input'
 
   -- Turns until all is said, the text that they write, and the stores after them.
   pub data Turns : Progress → (input rest : List ℕ) → Stores → (text : List ℕ) → Stores → Type 0 where
-    last_turn : {p : Progress} {input rest : List ℕ} {s : Stores} (out : List ℕ) (q : Progress) (input' rest' : List ℕ) → OneTurn p input rest s out q input' rest' → q.over ≡ true
+    last_turn : {p : Progress} {input rest : List ℕ} {s : Stores} (out : List ℕ) (q : Progress) (input' rest' : List ℕ) → OneTurn p input rest s out q input' rest' → q.halt ≡ Halt.Over
         → Turns p input rest s (take (run_of sheet program p input out s).fed.wrote (run_of sheet program p input out s).out) (run_of sheet program p input out s).after
-    next_turn : {p : Progress} {input rest : List ℕ} {s : Stores} {text : List ℕ} {after : Stores} (out : List ℕ) (q : Progress) (input' rest' : List ℕ) → OneTurn p input rest s out q input' rest' → q.over ≡ false
+    next_turn : {p : Progress} {input rest : List ℕ} {s : Stores} {text : List ℕ} {after : Stores} (out : List ℕ) (q : Progress) (input' rest' : List ℕ) → OneTurn p input rest s out q input' rest' → q.halt ≢ Halt.Over
         → Turns q input' rest' (run_of sheet program p input out s).after text after
         → Turns p input rest s (take (run_of sheet program p input out s).fed.wrote (run_of sheet program p input out s).out ++ text) after
 

@@ -1,5 +1,7 @@
-use Rattle.answers.proofs.Laws.{whole-record}
+use Rattle.replies.specs.Replies.{saying}
+use Rattle.answers.specs.Answers.{turn_by, turn_of}
 use Rattle.answers.proofs.answer.Goals as goal
 
-pub returns : goal.returns
-returns c = record { nodes_after = whole-record _ _ _ _ _ _ _ _ _ _ c.outline_room-outlines.ensures c.record_of-record.ensures.outlines_after c.answer_record.ensures.nodes_after; within = c.answer_record.ensures.within }
+pub returns-in_err-read-clause-nodes_after : goal.returns-in_err-read-clause-nodes_after
+unfolding turn_of turn_by saying
+returns-in_err-read-clause-nodes_after c = rw (c.from_residual.ensures, ← c.outline_room-outlines.ensures, ← c.in_err-read.ensures.outlines_after)

@@ -1,28 +1,28 @@
 use native.Mathlib.Omega.{arith}
-use mathlib.Core.Path.{refl, sym, ◌∙◌}
-use Rattle.attribute_records.proofs.Laws.{given-long, given-short, given-mark, given-all, all-faulty, all_more, all-over, all_end}
+use mathlib.Core.Path.{◌≡◌, sym, ◌∙◌, ap}
+use Prim.Native.Nat.{◌+◌, ◌-◌, ◌*◌}
+use Rattle.std.specs.Prelude.{Option}
+use Rattle.attribute_records.specs.AttributeRecords.{read}
+use Rattle.attribute_records.specs.declared.Record.{Record}
+use Rattle.attribute_records.proofs.Laws.{given-all, all-faulty, all_more, all-over, all_end}
 use Rattle.attribute_records.proofs.attributes_of.Goals as goal
 
-pub returns-then-body-gt65535 : goal.returns-then-body-gt65535
-returns-then-body-gt65535 c = record { outlines_after = given-long _ _ (omega arith); fits = tt }
+pub loop-i-preserved : goal.loop-i-preserved
+loop-i-preserved c =
+    let l = c.loop-i in
+    let n = c.at8-count.result in
+    let e : n - (l.i + 1) ≡ n - l.i - 1 = omega arith in
+    let f : 4 * (l.i + 1) ≡ 4 * l.i + 4 = omega arith in
+    rw (e, f) (l.invariant ∙ all_more _ _ (n - l.i) (4 * l.i) _ _ _ _ _ (omega arith) c.read_attribute.ensures c.in_ok-at.was)
 
-pub returns-then-body-lt3 : goal.returns-then-body-lt3
-returns-then-body-lt3 c = record { outlines_after = given-short _ _ (omega arith); fits = tt }
+pub returns-in_err-at-clause-outlines_after : goal.returns-in_err-at-clause-outlines_after
+returns-in_err-at-clause-outlines_after c =
+    given-all _ _ (omega arith) (omega arith) _ c.at8-mark.ensures.0 c.if-mark-gt1.false _ c.at8-count.ensures.0 _
+    (ap (λ (r : Option Record). read r c.read_attribute.new.outlines) c.from_residual.ensures ∙ all-faulty _ _ _ _ _ _ _ _ (omega arith) c.read_attribute.ensures c.in_err-at.was ∙ sym c.loop-i.invariant)
 
-pub returns-then-mark-gt1 : goal.returns-then-mark-gt1
-returns-then-mark-gt1 c = record { outlines_after = given-mark _ _ (omega arith) (omega arith) _ c.at8-mark.ensures.0 c.if-mark-gt1.true; fits = tt }
+pub returns-then-at-body-clause-outlines_after : goal.returns-then-at-body-clause-outlines_after
+returns-then-at-body-clause-outlines_after c = given-all _ _ (omega arith) (omega arith) _ c.at8-mark.ensures.0 c.if-mark-gt1.false _ c.at8-count.ensures.0 _ (all-over _ _ _ _ _ _ (omega arith) c.if-at-body.true ∙ sym c.loop-i.invariant)
 
-pub loop-left-init : goal.loop-left-init
-loop-left-init c = (refl, omega arith, refl)
-
-pub returns-in_default : goal.returns-in_default
-returns-in_default c = record { outlines_after = given-all _ _ (omega arith) (omega arith) _ c.at8-mark.ensures.0 c.if-mark-gt1.false _ c.at8-left.ensures.0 _ (all-faulty _ _ _ _ _ _ _ _ (omega arith) c.read_attribute-step.ensures c.in_default.is ∙ sym c.loop-left.invariant.2); fits = tt }
-
-pub loop-left-preserved : goal.loop-left-preserved
-loop-left-preserved c = (omega arith, omega arith, c.loop-left.invariant.2 ∙ all_more _ _ _ _ _ _ _ _ _ (omega arith) c.read_attribute-step.ensures c.in-Next.is)
-
-pub returns-then-at-body : goal.returns-then-at-body
-returns-then-at-body c = record { outlines_after = given-all _ _ (omega arith) (omega arith) _ c.at8-mark.ensures.0 c.if-mark-gt1.false _ c.at8-left.ensures.0 _ (all-over _ _ _ _ _ _ (omega arith) c.if-at-body.true ∙ sym c.loop-left.invariant.2); fits = tt }
-
-pub returns : goal.returns
-returns c = record { outlines_after = given-all _ _ (omega arith) (omega arith) _ c.at8-mark.ensures.0 c.if-mark-gt1.false _ c.at8-left.ensures.0 _ (all_end _ _ _ _ _ _ (omega arith) c.if-at-body.false ∙ sym c.loop-left.invariant.2); fits = omega arith }
+pub returns-clause-outlines_after : goal.returns-clause-outlines_after
+returns-clause-outlines_after c = let e : 4 * c.at8-count.result ≡ 4 * c.loop-i.i = let l = c.loop-i in omega arith in
+    given-all _ _ (omega arith) (omega arith) _ c.at8-mark.ensures.0 c.if-mark-gt1.false _ c.at8-count.ensures.0 _ (rw e (all_end _ _ _ _ _ _ (omega arith) c.if-at-body.false ∙ sym c.loop-i.invariant))
