@@ -11,7 +11,9 @@ use node_tests::{Tag, tag_test};
 
 // The words of a row, of which two speak of tests: where they stand in the sheet, and how many there are.
 const ROW_WORDS: usize = 8;
+
 const TESTS: usize = 1;
+
 const COUNTS: usize = 2;
 
 // What a row says of its instruction's tests.
