@@ -14,7 +14,7 @@ invariant-loop-id l = record {
   below_words : l.from ≤ 64 * length l.words;
   room : l.next ≤ l.at + 21 * l.from;
   place : l.at + length (ids_text (ids_of l.words)) ≡ l.next + length (Rest l.words l.from);
-  text : written l.initial.out l.at (ids_text (ids_of l.words)) ≡ written l.out l.next (Rest l.words l.from)
+  text : written l.initial.out l.at (ids_text (ids_of l.words)) ≡ written l.out l.next (Rest l.words l.from);
 }
 
 abbrev pub decreases-loop-id : goal.decreases-loop-id
