@@ -21,6 +21,11 @@ unfoldable pub tests_end : List ℕ → ℕ → ℕ → ℕ
 tests_end sheet zero at = at
 tests_end sheet (suc n) at = tests_end sheet n (test_end sheet at)
 
+-- So many tests from a place on pass, by what a test's bytes say.
+unfoldable pub tests_hold : (List ℕ → Bool) → List ℕ → ℕ → ℕ → Bool
+tests_hold passes sheet zero at = true
+tests_hold passes sheet (suc n) at = passes (part sheet (at + 2) (test_end sheet at)) && tests_hold passes sheet n (test_end sheet at)
+
 -- So many tag tests from a place on hold for a name and its positions.
 unfoldable pub tag_tests_hold : List ℕ → List ℕ → ℕ → ℕ → ℕ → ℕ → Bool
 tag_tests_hold sheet name child of_type zero at = true

@@ -1,8 +1,8 @@
 //! The tests of one instruction, read from its row and from the sheet (program.rs: `Instruction`).
-ghost use Rattle.std.specs.Prelude.{◌≡◌, ◌+◌, ◌-◌, ◌<◌, ◌≤◌, ◌^◌};
+ghost use Rattle.std.specs.Fn.{FnReturnsAt};
+ghost use Rattle.std.specs.Prelude.{◌≡◌, List, ℕ, Bool, ◌+◌, ◌-◌, ◌<◌, ◌≤◌, ◌^◌};
 ghost use Rattle.rules.specs.Attributes.{attributes_of};
-ghost use Rattle.cells.specs.Numbers.{part};
-ghost use Rattle.instructions.specs.Instructions.{row_word, tag_tests_hold, attribute_tests_hold, test_end, tests_end, tag_count, attribute_count, tag_tests_pass, attribute_passes, asks};
+ghost use Rattle.instructions.specs.Instructions.{row_word, tests_hold, test_end, tests_end, tag_count, attribute_count, tag_tests_pass, attribute_passes, asks};
 
 use cells::numbers::u16_at;
 use cells::{at32, part_of};
@@ -46,36 +46,16 @@ fn test_end(sheet: &[u8], at: usize) -> usize
     at + 2 + u16_at(sheet, at)
 }
 
-// So many tag tests from a place of the sheet on.
-fn tag_tests<'n>(sheet: &[u8], tag: Tag<'n>, count: usize, from: usize) -> bool
-    requires { (count < 2 ^ 8) × (from < 2 ^ 48) }
-    ensures { result ≡ tag_tests_hold sheet.now tag.entry.name.now tag.entry.child tag.entry.of_type count from }
+// Whether so many tests from a place of the sheet on pass.
+fn tests_hold<F: Fn(&[u8]) -> bool>(sheet: &[u8], count: usize, from: usize, passes: F) -> bool
+    requires bounds { (count < 2 ^ 8) × (from < 2 ^ 49) }
+    requires callable { F.IsAlwaysCallable passes }
+    ensures { (p : List ℕ → Bool) → ((test : List ℕ) (r : Bool) → FnReturnsAt F.Fn passes test r → r ≡ p test) → result ≡ tests_hold p sheet.now count from }
 {
     let mut at = from;
     for _done in 0..count {
         let end = test_end(sheet, at);
-        if !tag_test(part_of(sheet, at + 2, end), tag) {
-            return false;
-        }
-        at = end;
-    }
-    true
-}
-
-// The same for attribute tests.
-fn attribute_tests<'i, 'o>(
-    sheet: &[u8],
-    attributes: AttributeMatcher<'i, 'o>,
-    count: usize,
-    from: usize,
-) -> bool
-    requires { (count < 2 ^ 8) × (from < 2 ^ 49) }
-    ensures { result ≡ attribute_tests_hold sheet.now attributes.entry.html (attributes_of attributes.entry.input.now attributes.entry.outlines.now) count from }
-{
-    let mut at = from;
-    for _done in 0..count {
-        let end = test_end(sheet, at);
-        if !attributes.matches(part_of(sheet, at + 2, end)) {
+        if !passes(part_of(sheet, at + 2, end)) {
             return false;
         }
         at = end;
@@ -108,7 +88,7 @@ pub fn tag_tests_pass<'n>(sheet: &[u8], program: &[u32], a: u16, tag: Tag<'n>) -
     ensures { result ≡ tag_tests_pass sheet.now program.now tag.entry.name.now tag.entry.child tag.entry.of_type a }
 {
     let row = row_of(program, a);
-    tag_tests(sheet, tag, row.tag_count, row.tests)
+    tests_hold(sheet, row.tag_count, row.tests, |test| tag_test(test, tag))
 }
 
 // Whether all attribute tests of an instruction hold: they follow its tag tests.
@@ -122,7 +102,9 @@ pub fn attributes_pass<'i, 'o>(
 {
     let row = row_of(program, a);
     let from = tests_end(sheet, row.tag_count, row.tests);
-    attribute_tests(sheet, attributes, row.attribute_count, from)
+    tests_hold(sheet, row.attribute_count, from, |test| {
+        attributes.matches(test)
+    })
 }
 
 // Whether an instruction has an attribute test.

@@ -1,32 +1,14 @@
-use mathlib.Core.Path.{refl}
-use native.Mathlib.Omega.{arith}
-use Rattle.exec.proofs.ScanTurns.{reached-at, reached-over, adds_none, adds_one, adds-up, all-over, all-find, tag-refuses, attributes-refuse}
-use Rattle.exec.proofs.scan.scan_attributes.Goals.{else-tag_tests_pass-via-then-tag_tests_pass+else-attributes_pass, else-tag_tests_pass-via-else-tag_tests_pass}
+use Rattle.std.proofs.Common.{rules, false}
+use Rattle.rules.specs.Attributes.{attributes_of}
+use Rattle.exec.specs.Scans.{all_pass, attribute_scan}
+use Rattle.exec.specs.Searching.{Judges}
+use Rattle.exec.proofs.ScanTurns.{no-key-all, keyed-all, seek-all, all-found}
 use Rattle.exec.proofs.scan.scan_attributes.Goals as goal
 
-pub loop-d-init : goal.loop-d-init
-loop-d-init c = (omega arith, (refl, (refl, refl)))
-
-pub overflow_cast-a : goal.overflow_cast-a
-overflow_cast-a c = let r = reached-at _ _ _ _ _ _ _ _ _ _ _ _ c.next_live.ensures c.in-Some.is in let z = r.below in omega arith
-
-pub overflow_add-all : goal.overflow_add-all
-overflow_add-all c = let r = reached-at _ _ _ _ _ _ _ _ _ _ _ _ c.next_live.ensures c.in-Some.is in let z = r.less in omega (arith, z, c.loop-d.invariant.0, c.ranges.budget, c.ranges.count)
-
-pub loop-d-smaller-then-attributes_pass : goal.loop-d-smaller-then-attributes_pass
-loop-d-smaller-then-attributes_pass c = let r = reached-at _ _ _ _ _ _ _ _ _ _ _ _ c.next_live.ensures c.in-Some.is in let z = r.less in z
-
-pub loop-d-preserved-then-attributes_pass : goal.loop-d-preserved-then-attributes_pass
-loop-d-preserved-then-attributes_pass c = let r = reached-at _ _ _ _ _ _ _ _ _ _ _ _ c.next_live.ensures c.in-Some.is in let z = r.less in (omega arith, (omega arith, adds_one _ _ _ _ _ _ c.loop-d.invariant.1.1 _ _ _ (all-find _ _ _ _ _ _ _ _ _ _ _ _ _ _ _ _ r _ c.tag_tests_pass.ensures _ c.next-c.ensures _ c.attributes_pass.ensures c.if-tag_tests_pass.true c.if-attributes_pass.true) c.put16.ensures))
-
-pub loop-d-smaller : goal.loop-d-smaller
-loop-d-smaller c = let r = reached-at _ _ _ _ _ _ _ _ _ _ _ _ c.next_live.ensures c.in-Some.is in let z = r.less in z
-
-pub loop-d-preserved : goal.loop-d-preserved
-loop-d-preserved c = let r = reached-at _ _ _ _ _ _ _ _ _ _ _ _ c.next_live.ensures c.in-Some.is in let z = r.less in elim c.else-tag_tests_pass.branch [
-  | else-tag_tests_pass-via-then-tag_tests_pass+else-attributes_pass w ↦ (omega (arith, z), (c.loop-d.invariant.1.0, adds_none _ _ _ _ _ _ c.loop-d.invariant.1.1 _ (attributes-refuse _ _ _ _ _ _ _ _ _ _ _ _ _ _ _ _ r _ c.tag_tests_pass.ensures _ c.next-c.ensures _ w.attributes_pass.ensures w.if-tag_tests_pass.true w.if-attributes_pass.false)))
-  | else-tag_tests_pass-via-else-tag_tests_pass w ↦ (omega (arith, z), (c.loop-d.invariant.1.0, adds_none _ _ _ _ _ _ c.loop-d.invariant.1.1 _ (tag-refuses _ _ _ _ _ _ _ _ _ _ _ _ _ _ _ _ r _ c.tag_tests_pass.ensures _ c.next-c.ensures w.if-tag_tests_pass.false)))
-]
-
 pub returns : goal.returns
-returns c = adds-up _ _ _ _ _ _ c.loop-d.invariant.1.1 (all-over _ _ _ _ _ _ _ _ _ _ _ _ _ (reached-over _ _ _ _ _ _ _ _ _ c.next_live.ensures c.in_default.is))
+unfolding attribute_scan Judges
+returns c = let a = c.args in let t = a.tag in let s = attributes_of a.attributes.input.now a.attributes.outlines.now in
+    all-found _ _ _ _ _ _
+    (c.scan.ensures (all_pass a.sheet.now a.program.now t.name.now a.key t.child t.of_type a.attributes.html s) (λ n. false)
+    (no-key-all a.sheet.now a.program.now t.name.now a.key t.child t.of_type a.attributes.html s, λ n v h k p. keyed-all a.sheet.now a.program.now t.name.now a.key t.child t.of_type a.attributes.html s n v k (search rules)))
+    (seek-all _ _)

@@ -1,31 +1,12 @@
-use mathlib.Core.Path.{refl}
-use native.Mathlib.Omega.{arith}
-use Rattle.exec.proofs.ScanTurns.{reached-at, reached-over, goes_on, goes-found, goes-out, goes-stuck, tag-over, tag-fails, tag-stops, tag-finds}
+use Rattle.std.proofs.Common.{rules}
+use Rattle.instructions.specs.Instructions.{tag_passes, asks}
+use Rattle.exec.specs.Scans.{tag_scan}
+use Rattle.exec.specs.Searching.{Judges}
+use Rattle.exec.proofs.ScanTurns.{no_key, keyed}
 use Rattle.exec.proofs.scan.scan_tag.Goals as goal
 
-pub loop-d-init : goal.loop-d-init
-loop-d-init c = (omega arith, (refl, (refl, refl)))
-
-pub overflow_cast-a : goal.overflow_cast-a
-overflow_cast-a c = let r = reached-at _ _ _ _ _ _ _ _ _ _ _ _ c.next_live.ensures c.in-Some.is in let z = r.below in omega arith
-
-pub returns-then-asks_attributes : goal.returns-then-asks_attributes
-returns-then-asks_attributes c = let r = reached-at _ _ _ _ _ _ _ _ _ _ _ _ c.next_live.ensures c.in-Some.is in let z = r.less in goes-stuck _ _ _ _ _ c.loop-d.invariant.1.1 _ (tag-stops _ _ _ _ _ _ _ _ _ _ _ _ _ _ r _ c.tag_tests_pass.ensures _ c.next-c.ensures _ c.asks_attributes.ensures c.if-tag_tests_pass.true c.if-asks_attributes.true)
-
-pub overflow_add-count : goal.overflow_add-count
-overflow_add-count c = let r = reached-at _ _ _ _ _ _ _ _ _ _ _ _ c.next_live.ensures c.in-Some.is in let z = r.less in omega (arith, z, c.loop-d.invariant.0, c.ranges.budget)
-
-pub loop-d-smaller-then-tag_tests_pass : goal.loop-d-smaller-then-tag_tests_pass
-loop-d-smaller-then-tag_tests_pass c = let r = reached-at _ _ _ _ _ _ _ _ _ _ _ _ c.next_live.ensures c.in-Some.is in let z = r.less in z
-
-pub loop-d-preserved-then-tag_tests_pass : goal.loop-d-preserved-then-tag_tests_pass
-loop-d-preserved-then-tag_tests_pass c = let r = reached-at _ _ _ _ _ _ _ _ _ _ _ _ c.next_live.ensures c.in-Some.is in let z = r.less in (omega arith, (omega arith, goes-found _ _ _ _ _ c.loop-d.invariant.1.1 _ _ _ (tag-finds _ _ _ _ _ _ _ _ _ _ _ _ _ _ r _ c.tag_tests_pass.ensures _ c.next-c.ensures _ c.asks_attributes.ensures c.if-tag_tests_pass.true c.if-asks_attributes.false) c.put16.ensures))
-
-pub loop-d-smaller : goal.loop-d-smaller
-loop-d-smaller c = let r = reached-at _ _ _ _ _ _ _ _ _ _ _ _ c.next_live.ensures c.in-Some.is in let z = r.less in z
-
-pub loop-d-preserved : goal.loop-d-preserved
-loop-d-preserved c = let r = reached-at _ _ _ _ _ _ _ _ _ _ _ _ c.next_live.ensures c.in-Some.is in let z = r.less in (omega arith, (c.loop-d.invariant.1.0, goes_on _ _ _ _ _ c.loop-d.invariant.1.1 _ (tag-fails _ _ _ _ _ _ _ _ _ _ _ _ _ _ r _ c.tag_tests_pass.ensures _ c.next-c.ensures c.if-tag_tests_pass.false)))
-
 pub returns : goal.returns
-returns c = goes-out _ _ _ _ _ c.loop-d.invariant.1.1 (tag-over _ _ _ _ _ _ _ _ _ _ _ (reached-over _ _ _ _ _ _ _ _ _ c.next_live.ensures c.in_default.is))
+unfolding tag_scan Judges
+returns c = let a = c.args in let t = a.tag in
+    c.scan.ensures (tag_passes a.sheet.now a.program.now t.name.now a.key t.child t.of_type) (asks a.program.now)
+    (no_key a.sheet.now a.program.now t.name.now a.key t.child t.of_type, λ n v h k p. keyed a.sheet.now a.program.now t.name.now a.key t.child t.of_type n v k (search rules))
