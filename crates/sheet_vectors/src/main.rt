@@ -69,12 +69,7 @@ fn replay<R: Read>(reader: &mut R, sheet: &mut [u8], store: &mut [u32]) -> Resul
         return Ok(Verdict::Broken);
     }
     let end = places * 8;
-    Ok(judge(
-        &sheet[0..n],
-        &mut store[0..end],
-        head[6],
-        u32_at(&head, 7),
-    ))
+    Ok(judge(&sheet[0..n], &mut store[0..end], head[6], u32_at(&head, 7)))
 }
 
 fn say<W: Write>(to: &mut W, word: &[u8], n: u64, rest: &[u8]) -> Result<()> {
