@@ -5,7 +5,7 @@ ghost use Rattle.std.specs.Prelude.{◌≡◌, ◌+◌, ◌*◌, ◌≤◌, ◌<
 
 use ends::{Popped, Top, TopReply};
 use lines::{put_refused, put_sheet_refused};
-use making::Made;
+use making::Unmade;
 use match_lines::put_ids;
 use text::put_text;
 
@@ -15,14 +15,19 @@ pub fn least(a: usize, b: usize) -> usize
     if a < b { a } else { b }
 }
 
-pub fn put_made(out: &mut [u8], at: usize, made: Made) -> usize
+pub fn put_made(out: &mut [u8], at: usize, made: Result<(), Unmade>) -> usize
     requires { at ≤ 4294967296 }
     ensures { result ≤ at + 4096 }
 {
     match made {
-        Made::Made => put_text(out, at, b"made\n"),
-        Made::Sheet(number, place) => put_sheet_refused(out, at, number, place),
-        Made::Refused(number) => put_refused(out, at, number),
+        Ok(()) => put_text(out, at, b"made\n"),
+        Err(Unmade::Sheet(fault)) => put_sheet_refused(
+            out,
+            at,
+            fault.refusal.number(),
+            fault.place,
+        ),
+        Err(Unmade::Refused(refusal)) => put_refused(out, at, refusal.number()),
     }
 }
 

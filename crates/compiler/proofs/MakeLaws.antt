@@ -15,11 +15,10 @@ use Rattle.sheet.specs.Parser.{Parsed, parse_sheet, checked_of}
 use Rattle.sheet.specs.Spelling.{Spells, Sheet}
 use Rattle.sheet.proofs.SpellingLaws.{good-sheet, spelt-width}
 use Rattle.sheet.proofs.SpellingLaws as spelling
-use Rattle.sheet.specs.declared.Checked.{Checked}
 use Rattle.program.specs.Program.{any_of_type, uses_nth_of_type}
 use Rattle.compiler.specs.Placing.{lay_trees, Room, RecordsInside, records_use}
 use Rattle.compiler.specs.Compiler.{compiled_of, store_of}
-use Rattle.compiler.specs.declared.Compiled.{Compiled}
+use Rattle.refusals.specs.Numbers.{Judged}
 use Rattle.compiler.proofs.PlacingLaws.{lay-out, emitted-layout}
 
 -- ---- the records, one after the other, are the nodes of the forest
@@ -53,23 +52,23 @@ module _ {s : List ℕ} where
 
 -- ---- each way out
 
-refused-of : (r : Parsed (Forest NodeRecord)) (w p : ℕ) (st : List ℕ) → Checked.Refused w p ≡ checked_of r → (Compiled.Refused w p ≡ compiled_of r st) × (st ≡ store_of r st)
+refused-of : (r : Parsed (Forest NodeRecord)) (w p : ℕ) (st : List ℕ) → Judged.Refused w p ≡ checked_of r → (Judged.Refused w p ≡ compiled_of r st) × (st ≡ store_of r st)
 unfolding checked_of compiled_of store_of
 refused-of (Parsed.refused w' p') w p st e = (cc, refl)
 refused-of (Parsed.read f m) w p st e = (cc, cc)
 
 module _ (s : List ℕ) where
-  pub refused : (w p : ℕ) (st : List ℕ) → Checked.Refused w p ≡ checked_of (parse_sheet s) → (Compiled.Refused w p ≡ compiled_of (parse_sheet s) st) × (st ≡ store_of (parse_sheet s) st)
+  pub refused : (w p : ℕ) (st : List ℕ) → Judged.Refused w p ≡ checked_of (parse_sheet s) → (Judged.Refused w p ≡ compiled_of (parse_sheet s) st) × (st ≡ store_of (parse_sheet s) st)
   refused w p st e = refused-of (parse_sheet s) w p st e
 
-  module _ (good : Checked.Good ≡ checked_of (parse_sheet s)) where
+  module _ (good : Judged.Good tt ≡ checked_of (parse_sheet s)) where
     abbrev forest : Forest NodeRecord
     forest = (spelling.taken s good).forest
 
     sheet : Sheet s forest
     sheet = good-sheet s forest (length s) (spelling.taken s good).is
 
-    pub no_room : (st : List ℕ) {n : ℕ} → n ≡ be16 s 5 → length st / 8 < n → (Compiled.Refused 15 0 ≡ compiled_of (parse_sheet s) st) × (st ≡ store_of (parse_sheet s) st)
+    pub no_room : (st : List ℕ) {n : ℕ} → n ≡ be16 s 5 → length st / 8 < n → (Judged.Refused 15 0 ≡ compiled_of (parse_sheet s) st) × (st ≡ store_of (parse_sheet s) st)
     unfolding compiled_of store_of
     no_room st en h =
         let e = sheet.nodes in let k : length st / 8 < size forest = omega arith in
@@ -84,7 +83,7 @@ module _ (s : List ℕ) where
     unfolding RecordsInside
     records en = (sheet.short, rw (en, ← sheet.nodes) (rw add-zero at (records-inside sheet.spelt 0 tt)))
 
-    pub made : (st st₁ : List ℕ) {n k : ℕ} {nth : Bool} → n ≡ be16 s 5 → k ≡ be16 s 7 → n ≤ length st / 8 → st₁ ≡ (lay_trees 32 s k 9 0 k st).store → nth ≡ records_use s n 9 → (Compiled.Made nth ≡ compiled_of (parse_sheet s) st) × (st₁ ≡ store_of (parse_sheet s) st)
+    pub made : (st st₁ : List ℕ) {n k : ℕ} {nth : Bool} → n ≡ be16 s 5 → k ≡ be16 s 7 → n ≤ length st / 8 → st₁ ≡ (lay_trees 32 s k 9 0 k st).store → nth ≡ records_use s n 9 → (Judged.Good nth ≡ compiled_of (parse_sheet s) st) × (st₁ ≡ store_of (parse_sheet s) st)
     unfolding compiled_of store_of records_use
     made st st₁ {n} {k} en ek h es eu =
         let e = sheet.nodes in let w = spelt-width sheet.spelt in
@@ -92,4 +91,4 @@ module _ (s : List ℕ) where
         let o = lay-out sheet.spelt 9 refl 0 (be16 s 7) (omega arith) st in
         let u = records-use sheet.spelt 0 in
         let v : records_use s n 9 ≡ uses_nth_of_type forest = rw (en, ← e) (rw add-zero at u ∙ or-false (uses_nth_of_type forest)) in
-        rw ((spelling.taken s good).is, le-ltb _ _ l) (ap Compiled.Made (eu ∙ v), rw (es, ek) (o.store_is ∙ emitted-layout forest 0 (be16 s 7) st (omega arith)))
+        rw ((spelling.taken s good).is, le-ltb _ _ l) (ap Judged.Good (eu ∙ v), rw (es, ek) (o.store_is ∙ emitted-layout forest 0 (be16 s 7) st (omega arith)))

@@ -136,5 +136,6 @@ tree-ends s depth at {node} {k} {p} {q} hd en tc td slot free st =
     (lay-out td (C s depth at slot free st).next c.next_is (C s depth at slot free st).free ((C s depth at slot free st).free + descendant_count s at) (omega arith) (C s depth at slot free st).store)
 
 -- one turn of the loop over siblings
-pub trees-again : (s : List ℕ) (depth n at slot free : ℕ) (st st₁ : List ℕ) {next₁ free₁ : ℕ} → 0 < n → next₁ ≡ (lay_at depth s at slot free st).next → free₁ ≡ (lay_at depth s at slot free st).free → st₁ ≡ (lay_at depth s at slot free st).store → lay_trees depth s n at slot free st ≡ lay_trees depth s (n - 1) next₁ (slot + 1) free₁ st₁
-trees-again s depth n at slot free st st₁ h a b c = rw (a, b, c) (trees-more s depth n at slot free st h)
+pub trees-again : (s : List ℕ) (depth n k at slot free : ℕ) (st st₁ : List ℕ) {next₁ free₁ : ℕ} → n ≡ k + 1 → next₁ ≡ (lay_at depth s at slot free st).next → free₁ ≡ (lay_at depth s at slot free st).free → st₁ ≡ (lay_at depth s at slot free st).store → lay_trees depth s n at slot free st ≡ lay_trees depth s k next₁ (slot + 1) free₁ st₁
+trees-again s depth n k at slot free st st₁ h a b c =
+    let e : n - 1 ≡ k = omega arith in let m = trees-more s depth n at slot free st (omega arith) in rw (a, b, c) (rw e at m)

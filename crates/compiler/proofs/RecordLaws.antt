@@ -3,7 +3,7 @@ use Prim.Native.Nat.{ℕ, zero, suc, ◌+◌, ◌-◌, ◌≤◌, ◌<◌}
 use mathlib.Core.Path.{◌≡◌, refl}
 use mathlib.Core.Bool.{Bool, true, false}
 use mathlib.Core.List.{List, map}
-use native.Mathlib.Numerals.{sub-one}
+use native.Mathlib.Numerals.{add-one}
 use native.Mathlib.Omega.{arith}
 use lib.ListN.{get_or}
 use Rattle.cells.specs.Numbers.{be16}
@@ -14,30 +14,26 @@ use Rattle.program.specs.Program.{any_of_type}
 use Rattle.compiler.specs.Placing.{RecordsInside, records_use}
 
 module _ (s : List ℕ) where
-  pub records-first : (n at : ℕ) → 0 < n → RecordsInside s n at → Inside s at × RecordsInside s (n - 1) (end_of s at)
+  pub records-first : (n : ℕ) {m : ℕ} (at : ℕ) → m ≡ n + 1 → RecordsInside s m at → Inside s at × RecordsInside s n (end_of s at)
   unfolding RecordsInside
-  records-first zero at h t = absurd (omega arith)
-  records-first (suc n) at h t = rw sub-one t
+  records-first n at h t = rw (h, add-one) at t
 
-  pub records-none : (n at : ℕ) → n ≤ 0 → records_use s n at ≡ false
+  pub records-none : (n at : ℕ) → n ≡ 0 → records_use s n at ≡ false
   unfolding records_use
-  records-none zero at h = refl
-  records-none (suc n) at h = absurd (omega arith)
+  records-none n at h = rw h refl
 
-  module _ (at : ℕ) {k tags : ℕ} (ek : k ≡ get_or s (at + 2) 0) (et : tags ≡ get_or s (at + 3 + k) 0) {found : Bool} (e : found ≡ any_of_type (map read_tag_test (tests_from s tags (at + 3 + k + 6)))) where
+  module _ (at : ℕ) {k tags : ℕ} (ek : k ≡ get_or s (at + 2) 0) (et : tags ≡ get_or s (at + 3 + k) 0) {found : Bool} (e : found ≡ any_of_type (map read_tag_test (tests_from s tags (at + 3 + k + 6)))) (n : ℕ) {m : ℕ} (h : m ≡ n + 1) where
     found-is : found ≡ any_of_type (record_at s at).tag_tests
     unfolding record_at
     found-is = rw (e, et, ek) refl
 
-    pub records-found : (n : ℕ) → 0 < n → found ≡ true → records_use s n at ≡ true
+    pub records-found : found ≡ true → records_use s m at ≡ true
     unfolding records_use
-    records-found zero h z = absurd (omega arith)
-    records-found (suc n) h z = rw (← found-is, z) refl
+    records-found z = rw (h, add-one, ← found-is, z) refl
 
-    pub records-more : (n : ℕ) → 0 < n → found ≡ false → records_use s n at ≡ records_use s (n - 1) (end_of s at)
+    pub records-more : found ≡ false → records_use s m at ≡ records_use s n (end_of s at)
     unfolding records_use
-    records-more zero h z = absurd (omega arith)
-    records-more (suc n) h z = rw (sub-one, ← found-is, z) refl
+    records-more z = rw (h, add-one, ← found-is, z) refl
 
   pub tags-inside : (at : ℕ) → Inside s at → {n k tags : ℕ} → n ≡ be16 s at → k ≡ get_or s (at + 2) 0 → tags ≡ get_or s (at + 3 + k) 0 → TestsInside s (at + 2 + n) tags (at + 3 + k + 6)
   tags-inside at i en ek et = rw (et, ek, en) i.tags

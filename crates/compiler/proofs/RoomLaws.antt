@@ -75,5 +75,6 @@ others {s} {depth} {n} {at} {m} slot free st h x y (Spells.more {node = node} {b
     let f = o.free_is in
     rw o.next_is (record { forest = g; next = m; spelt = tn; own = omega arith; below = omega arith })
 
-pub rest-room : {s : List ℕ} {depth n at slot free : ℕ} (st : List ℕ) → 0 < n → Room s depth n at slot free → {hn hf : ℕ} → hn ≡ (lay_at depth s at slot free st).next → hf ≡ (lay_at depth s at slot free st).free → Room s depth (n - 1) hn (slot + 1) hf
-rest-room {slot = slot} {free = free} st h r ea ef = rw (ea, ef) (others slot free st h r.own r.below r.spelt)
+pub rest-room : {s : List ℕ} {depth n at slot free : ℕ} (st : List ℕ) (k : ℕ) → n ≡ k + 1 → Room s depth n at slot free → {hn hf : ℕ} → hn ≡ (lay_at depth s at slot free st).next → hf ≡ (lay_at depth s at slot free st).free → Room s depth k hn (slot + 1) hf
+rest-room {n = n} {slot = slot} {free = free} st k h r ea ef =
+    let e : n - 1 ≡ k = omega arith in let o = others slot free st (omega arith) r.own r.below r.spelt in rw (ea, ef) (rw e at o)

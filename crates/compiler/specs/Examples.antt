@@ -11,7 +11,7 @@ use Rattle.node_records.specs.Checks.{then_step, kind_ok, name_length_ok, compar
 use Rattle.sheet.specs.Parser.{and_then, after_step, parse_tree, parse_many, tree_at, parse_trees, parse_end, parse_sheet}
 use Rattle.program.specs.Program.{tag_key, test_key, node_key, words, row, rows, any_of_type, uses_nth_of_type}
 use Rattle.compiler.specs.Compiler.{compiled_of, store_of}
-use Rattle.compiler.specs.declared.Compiled.{Compiled}
+use Rattle.refusals.specs.Numbers.{Judged}
 
 -- Five records in the order of the sheet, A, C, F, G, B, each with one test, for the local name in small letters.
 unfoldable pub p10 : List ℕ
@@ -39,6 +39,6 @@ pub p10-rows : store_of (parse_sheet p10) lent ≡
 unfolding p10 store_of size below hash_of name_key tag_kind read_tag_test tests_from tests_end record_at be16 be32 then_step kind_ok name_length_ok comparison_ok body_ok check_test check_tests rising check_counts check_ids check_record and_then after_step parse_tree parse_many tree_at parse_trees parse_end parse_sheet tag_key test_key node_key words row rows
 p10-rows = refl
 
-pub p10-made : compiled_of (parse_sheet p10) lent ≡ Compiled.Made false
+pub p10-made : compiled_of (parse_sheet p10) lent ≡ Judged.Good false
 unfolding p10 compiled_of size tag_kind read_tag_test tests_from tests_end record_at be16 be32 then_step kind_ok name_length_ok comparison_ok body_ok check_test check_tests rising check_counts check_ids check_record and_then after_step parse_tree parse_many tree_at parse_trees parse_end parse_sheet of_type any_of_type uses_nth_of_type
 p10-made = refl

@@ -1,4 +1,4 @@
--- What the answer "made" says of the sheet and the store.
+-- What the answer that a sheet is compiled says of the sheet and the store.
 use Rattle.std.specs.Prelude.{ℕ, ◌≤◌, Bool, cond, List, ltb}
 use Rattle.std.proofs.Math.Path.{◌≡◌, refl}
 use Rattle.std.proofs.Math.Bool.{true, false}
@@ -13,7 +13,7 @@ use Rattle.sheet.specs.Spelling.{Sheet}
 use Rattle.sheet.proofs.SpellingLaws.{good-sheet}
 use Rattle.program.specs.Program.{rows, uses_nth_of_type}
 use Rattle.compiler.specs.Compiler.{places, compiled_of, store_of}
-use Rattle.compiler.specs.declared.Compiled.{Compiled}
+use Rattle.refusals.specs.Numbers.{Judged}
 
 -- The sheet is good and spells a forest, which has room in the store; the flag and the rows are the forest's.
 pub record Made (s store : List ℕ) (nth : Bool) : Type 0 where
@@ -24,7 +24,7 @@ pub record Made (s store : List ℕ) (nth : Bool) : Type 0 where
   pub rows_stand : store_of (parse_sheet s) store ≡ sets store 0 (rows (layout 0 forest))
 
 module _ (s store : List ℕ) (nth : Bool) where
-  with-room : (forest : Forest NodeRecord) (next : ℕ) → parse_sheet s ≡ read forest next → (b : Bool) → ltb (places store) (size forest) ≡ b → Compiled.Made nth ≡ cond b (Compiled.Refused 15 0) (Compiled.Made (uses_nth_of_type forest)) → Made s store nth
+  with-room : (forest : Forest NodeRecord) (next : ℕ) → parse_sheet s ≡ read forest next → (b : Bool) → ltb (places store) (size forest) ≡ b → Judged.Good nth ≡ cond b (Judged.Refused 15 0) (Judged.Good (uses_nth_of_type forest)) → Made s store nth
   unfolding store_of
   with-room forest next e true f g = let z : ◌≡◌ {A = ℕ} 0 1 = cc in absurd (omega arith)
   with-room forest next e false f g = record {
@@ -35,10 +35,10 @@ module _ (s store : List ℕ) (nth : Bool) where
     rows_stand = rw (e, f) refl;
   }
 
-  made_of : (r : Parsed (Forest NodeRecord)) → parse_sheet s ≡ r → Compiled.Made nth ≡ compiled_of r store → Made s store nth
+  made_of : (r : Parsed (Forest NodeRecord)) → parse_sheet s ≡ r → Judged.Good nth ≡ compiled_of r store → Made s store nth
   unfolding compiled_of
   made_of (refused number place) e g = let z : ◌≡◌ {A = ℕ} 0 1 = cc in absurd (omega arith)
   made_of (read forest next) e g = with-room forest next e (ltb (places store) (size forest)) refl g
 
-  pub made : Compiled.Made nth ≡ compiled_of (parse_sheet s) store → Made s store nth
+  pub made : Judged.Good nth ≡ compiled_of (parse_sheet s) store → Made s store nth
   made g = made_of (parse_sheet s) refl g

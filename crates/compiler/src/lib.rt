@@ -4,27 +4,23 @@
 #![tactic(auto)]
 
 ghost use Rattle.std.specs.Prelude.{◌≡◌, ◌≤◌, length};
+ghost use Rattle.refusals.specs.Numbers.{judged};
 ghost use Rattle.sheet.specs.Parser.{parse_sheet};
 ghost use Rattle.compiler.specs.Placing.{lay_at, lay_trees, Room, RecordsInside, records_use};
 ghost use Rattle.compiler.specs.Compiler.{compiled_of, store_of};
 
 use cells::at8;
 use cells::numbers::u16_at;
-use program::{any_of_type, links_at, put_instruction};
-use sheet::{Checked, check_sheet};
+use node_records::Links;
+use program::{ROW_WORDS, any_of_type, links_at, put_instruction};
+use refusals::{Fault, SheetRefusal};
+use sheet::{HEADER_LENGTH, MAX_DEPTH, check_sheet};
 
 // Where the next record is, and the first address that is free.
-#[derive(Drop)]
-struct Placed {
-    pub next: usize,
-    pub free: usize,
-}
-
-/// Made, and whether nth-of-type is in use; or 01's number and place.
 #[derive(Clone, Copy)]
-pub enum Compiled {
-    Made(bool),
-    Refused(u8, usize),
+struct Placed {
+    next: usize,
+    free: usize,
 }
 
 // Is a test of kind 5 in one of `count` records, one after the other from `at` on?
@@ -32,59 +28,43 @@ fn uses_nth_of_type(s: &[u8], count: usize, at: usize) -> bool
     requires { (length s.now ≤ 65536) × RecordsInside s.now count at }
     ensures { result ≡ records_use s.now count at }
 {
-    let mut left = count;
     let mut here = at;
-    while 0 < left {
+    for _ in 0..count {
         let end = here + 2 + u16_at(s, here);
         let counts = here + 3 + at8(s, here + 2);
         if any_of_type(s, end, at8(s, counts), counts + 6) {
             return true;
         }
         here = end;
-        left -= 1;
     }
     false
 }
 
-// The node whose record is at `at`, into its slot, all below it from `free` on.
+// The node whose record is at `here`, into its slot, all below it from what is free on.
 #[cycle(compile_node_compile_nodes)]
-fn compile_node(
-    s: &[u8],
-    store: &mut [u32],
-    depth: usize,
-    at: usize,
-    slot: usize,
-    free: usize,
-) -> Placed
+fn compile_node(s: &[u8], store: &mut [u32], depth: usize, slot: usize, here: Placed) -> Placed
     requires s_len_bound { length s.now ≤ 65536 }
-    requires room { Room s.now depth 1 at slot free }
-    ensures next_value { result.next ≡ (lay_at depth s.now at slot free store.old).next }
-    ensures free_value { result.free ≡ (lay_at depth s.now at slot free store.old).free }
-    ensures store_after { store.new ≡ (lay_at depth s.now at slot free store.old).store }
+    requires room { Room s.now depth 1 here.next slot here.free }
+    ensures next_value { result.next ≡ (lay_at depth s.now here.next slot here.free store.old).next }
+    ensures free_value { result.free ≡ (lay_at depth s.now here.next slot here.free store.old).free }
+    ensures store_after { store.new ≡ (lay_at depth s.now here.next slot here.free store.old).store }
 {
-    let links = links_at(s, at);
-    let children = links.children;
-    let descendants = links.descendants;
-    let c = compile_nodes(
-        s,
-        store,
-        depth - 1,
+    let Links {
+        next,
         children,
-        links.next,
-        free,
-        free + children,
-    );
-    let middle = c.free;
-    let d = compile_nodes(
-        s,
-        store,
-        depth - 1,
         descendants,
-        c.next,
-        middle,
-        middle + descendants,
-    );
-    put_instruction(s, store, slot, at, free, middle);
+    } = links_at(s, here.next);
+    let first = Placed {
+        next,
+        free: here.free + children,
+    };
+    let c = compile_nodes(s, store, depth - 1, children, here.free, first);
+    let middle = Placed {
+        next: c.next,
+        free: c.free + descendants,
+    };
+    let d = compile_nodes(s, store, depth - 1, descendants, c.free, middle);
+    put_instruction(s, store, slot, here.next, here.free, c.free);
     d
 }
 
@@ -95,48 +75,37 @@ fn compile_nodes(
     store: &mut [u32],
     depth: usize,
     count: usize,
-    at: usize,
     slot: usize,
-    free: usize,
+    start: Placed,
 ) -> Placed
     requires s_len_bound { length s.now ≤ 65536 }
-    requires room { Room s.now depth count at slot free }
-    ensures next_value { result.next ≡ (lay_trees depth s.now count at slot free store.old).next }
-    ensures free_value { result.free ≡ (lay_trees depth s.now count at slot free store.old).free }
-    ensures store_after { store.new ≡ (lay_trees depth s.now count at slot free store.old).store }
+    requires room { Room s.now depth count start.next slot start.free }
+    ensures next_value { result.next ≡ (lay_trees depth s.now count start.next slot start.free store.old).next }
+    ensures free_value { result.free ≡ (lay_trees depth s.now count start.next slot start.free store.old).free }
+    ensures store_after { store.new ≡ (lay_trees depth s.now count start.next slot start.free store.old).store }
 {
-    let mut left = count;
-    let mut here = at;
-    let mut to = slot;
-    let mut top = free;
-    while 0 < left {
-        let placed = compile_node(s, store, depth, here, to, top);
-        here = placed.next;
-        top = placed.free;
-        to += 1;
-        left -= 1;
+    let mut here = start;
+    for to in slot..slot + count {
+        here = compile_node(s, store, depth, to, here);
     }
-    Placed {
-        next: here,
-        free: top,
-    }
+    here
 }
 
-/// Checks the sheet and compiles it into the store, whatever that held: refusals 1 to 13, then 15.
-pub fn compile(s: &[u8], store: &mut [u32]) -> Compiled
-    ensures value { result ≡ compiled_of (parse_sheet s.now) store.old }
+/// Checks the sheet and compiles it into the store, whatever that held, and says whether nth-of-type is in use; or the first fault, of the room in the store last.
+pub fn compile(s: &[u8], store: &mut [u32]) -> Result<bool, Fault>
+    ensures value { judged result ≡ compiled_of (parse_sheet s.now) store.old }
     ensures store_after { store.new ≡ store_of (parse_sheet s.now) store.old }
 {
-    match check_sheet(s) {
-        Checked::Refused(number, place) => Compiled::Refused(number, place),
-        Checked::Good => {
-            let nodes = u16_at(s, 5);
-            if store.len() / 8 < nodes {
-                return Compiled::Refused(15, 0);
-            }
-            let roots = u16_at(s, 7);
-            compile_nodes(s, store, 32, roots, 9, 0, roots);
-            Compiled::Made(uses_nth_of_type(s, nodes, 9))
-        }
+    check_sheet(s)?;
+    let nodes = u16_at(s, 5);
+    if store.len() / ROW_WORDS < nodes {
+        return Err(SheetRefusal::ProgramTooShort.at(0));
     }
+    let roots = u16_at(s, 7);
+    let first = Placed {
+        next: HEADER_LENGTH,
+        free: roots,
+    };
+    compile_nodes(s, store, MAX_DEPTH, roots, 0, first);
+    Ok(uses_nth_of_type(s, nodes, HEADER_LENGTH))
 }

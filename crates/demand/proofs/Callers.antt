@@ -7,8 +7,7 @@ use Rattle.shapes.specs.Shapes.{state_refusal}
 use Rattle.weighing.specs.Words.{no_ids}
 use Rattle.accepting.specs.declared.Answer as accepting
 use Rattle.accepting.specs.Accepting.{Outcome}
-use Rattle.making.specs.declared.Made.{Made}
-use Rattle.making.specs.Making.{fresh_call}
+use Rattle.making.specs.Making.{Made, fresh_call}
 use Rattle.ends.specs.declared.Popped.{Popped}
 use Rattle.ends.specs.declared.Top.{Top}
 use Rattle.ends.specs.declared.TopReply.{TopReply}
@@ -84,7 +83,7 @@ top-reliable l (Top.Refused n) ids none (inr e) named =
 
 made-reliable : (a : Made) → ((n : ℕ) → a ≡ Made.Refused n → n ∈ making_refusals) → ((n place : ℕ) → a ≡ Made.Sheet n place → n ∈ making_refusals) → Reliable making_refusals (made_told a)
 unfolding made_told
-made-reliable Made.Made bare placed = (λ h k. (refl, refl), (λ h. absurd (omega arith), λ h. refl))
+made-reliable Made.Ready bare placed = (λ h k. (refl, refl), (λ h. absurd (omega arith), λ h. refl))
 made-reliable (Made.Sheet n place) bare placed = (λ h k. (refl, refl), (λ h. (placed n place refl, not-none making_refusals n (λ t. t) (placed n place refl)), λ h. absurd (h refl)))
 made-reliable (Made.Refused n) bare placed = (λ h k. (refl, refl), (λ h. (bare n refl, not-none making_refusals n (λ t. t) (bare n refl)), λ h. absurd (h refl)))
 

@@ -5,45 +5,43 @@ use Rattle.std.proofs.Math.Dec.{T}
 use Rattle.cells.specs.Numbers.{part, be16, be32}
 use Rattle.node_records.specs.Records.{NodeRecord, end_of, counts_at, child_count, descendant_count}
 use Rattle.node_records.specs.Checks.{then_step, kind_ok, body_ok, rising, check_test, check_tests, check_counts, check_ids, check_record}
-use Rattle.node_records.specs.declared.Step.{Step}
+use Rattle.refusals.specs.Numbers.{Judged}
 use Rattle.sheet.specs.Parser.{Parsed, and_then, after_step, tree_size, parse_tree, parse_many, tree_at, parse_trees, node_count, root_count, parse_end, parse_sheet}
 use Rattle.program.specs.Program.{uses_nth_of_type}
 use Rattle.compiler.specs.Compiler.{places, compiled_of}
-use Rattle.compiler.specs.declared.Compiled.{Compiled}
 use Rattle.stack.specs.Stores.{Stores}
 use Rattle.shapes.specs.Shapes.{sized}
-use Rattle.making.specs.declared.Made.{Made}
-use Rattle.making.specs.Making.{fresh, fresh_of, fresh_call}
+use Rattle.making.specs.Making.{Made, fresh, fresh_of, fresh_call}
 use Rattle.meaning.specs.Trees.{Forest, Node, size}
 use Rattle.meaning.specs.Lists.{◌∈◌, has}
 use Rattle.meaning.proofs.ListLaws.{has-mem}
 use Rattle.demand.specs.Numbers.{sheet_refusals}
 
 -- A refusal's number is in the list.
-abbrev Stepped : Step → Type 0
-Stepped (Step.Refused number place) = number ∈ sheet_refusals
-Stepped (Step.Next next) = Unit
+abbrev Stepped : Judged ℕ → Type 0
+Stepped (Judged.Refused number place) = number ∈ sheet_refusals
+Stepped (Judged.Good next) = Unit
 
 abbrev Listed : {A : Type 0} → Parsed A → Type 0
 Listed (Parsed.refused number place) = number ∈ sheet_refusals
 Listed (Parsed.read x next) = Unit
 
 abbrev Named : Made → Type 0
-Named Made.Made = Unit
+Named Made.Ready = Unit
 Named (Made.Sheet number place) = number ∈ sheet_refusals
 Named (Made.Refused number) = number ≡ 31
 
 -- ---- a record
 
 -- One line of a check: refused by a number of the list, or what follows.
-fault : (b : Bool) (number place : ℕ) (rest : Step) → T (has number sheet_refusals) → Stepped rest → Stepped (cond b (Step.Refused number place) rest)
+fault : (b : Bool) (number place : ℕ) (rest : Judged ℕ) → T (has number sheet_refusals) → Stepped rest → Stepped (cond b (Judged.Refused number place) rest)
 fault true number place rest t p = has-mem number sheet_refusals t
 fault false number place rest t p = p
 
-then-stepped : (r : Step) (more : ℕ → Step) → Stepped r → ((next : ℕ) → Stepped (more next)) → Stepped (then_step r more)
+then-stepped : (r : Judged ℕ) (more : ℕ → Judged ℕ) → Stepped r → ((next : ℕ) → Stepped (more next)) → Stepped (then_step r more)
 unfolding then_step
-then-stepped (Step.Refused number place) more p q = p
-then-stepped (Step.Next next) more p q = q next
+then-stepped (Judged.Refused number place) more p q = p
+then-stepped (Judged.Good next) more p q = q next
 
 module _ (s : List ℕ) (node end : ℕ) where
   test-stepped : (attributes : Bool) (at : ℕ) → Stepped (check_test s node end attributes at)
@@ -54,7 +52,7 @@ module _ (s : List ℕ) (node end : ℕ) where
       (fault (ltb (be16 s at) 2) 12 at _ tt
       (fault (not (kind_ok attributes (get_or s (at + 2) 0))) 11 at _ tt
       (fault (ltb 1 (get_or s (at + 3) 0)) 12 at _ tt
-      (fault (not (body_ok (get_or s (at + 2) 0) (part s (at + 4) (end_of s at)))) 12 at (Step.Next (end_of s at)) tt tt)))))
+      (fault (not (body_ok (get_or s (at + 2) 0) (part s (at + 4) (end_of s at)))) 12 at (Judged.Good (end_of s at)) tt tt)))))
 
   tests-stepped : (attributes : Bool) (n at : ℕ) → Stepped (check_tests s node end attributes n at)
   unfolding check_tests
@@ -69,7 +67,7 @@ module _ (s : List ℕ) (node end : ℕ) where
       (fault (ltb end (p + 6)) 8 node _ tt
       (then-stepped (check_tests s node end false (get_or s p 0) (p + 6)) _ (tests-stepped false (get_or s p 0) (p + 6)) (λ q.
       then-stepped (check_tests s node end true (get_or s (p + 1) 0) q) _ (tests-stepped true (get_or s (p + 1) 0) q) (λ last.
-      fault (not (eqb last end)) 8 node (Step.Next end) tt tt)))))
+      fault (not (eqb last end)) 8 node (Judged.Good end) tt tt)))))
 
   ids-stepped : Stepped (check_ids s node end)
   unfolding check_ids
@@ -97,10 +95,10 @@ unfolding and_then
 then-listed (Parsed.refused number place) more p q = p
 then-listed (Parsed.read x next) more p q = q x next
 
-after-listed : {A : Type 0} (r : Step) (more : ℕ → Parsed A) → Stepped r → ((next : ℕ) → Listed (more next)) → Listed (after_step r more)
+after-listed : {A : Type 0} (r : Judged ℕ) (more : ℕ → Parsed A) → Stepped r → ((next : ℕ) → Listed (more next)) → Listed (after_step r more)
 unfolding after_step
-after-listed (Step.Refused number place) more p q = p
-after-listed (Step.Next next) more p q = q next
+after-listed (Judged.Refused number place) more p q = p
+after-listed (Judged.Good next) more p q = q next
 
 tree-listed : (below : ℕ → ℕ → ℕ → Parsed (Forest NodeRecord)) (s : List ℕ) (total at used : ℕ) → ((n p u : ℕ) → Listed (below n p u)) → Listed (parse_tree below s total at used)
 unfolding parse_tree
@@ -145,7 +143,7 @@ unfolding fresh_of compiled_of
 made-named sheet esi program rows (Parsed.refused number place) p = p
 made-named sheet esi program rows (Parsed.read forest next) p = go (ltb (places program) (size forest))
   where
-    go : (b : Bool) → Named (fresh_of sheet esi program rows (cond b (Compiled.Refused 15 0) (Compiled.Made (uses_nth_of_type forest)))).made
+    go : (b : Bool) → Named (fresh_of sheet esi program rows (cond b (Judged.Refused 15 0) (Judged.Good (uses_nth_of_type forest)))).made
     go true = has-mem 15 sheet_refusals tt
     go false = tt
 

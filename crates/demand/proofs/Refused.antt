@@ -7,7 +7,7 @@ use Rattle.letters.specs.Bytes.{lower_of}
 use Rattle.names.specs.Names.{void_name}
 use Rattle.sheet.specs.Parser.{parse_sheet}
 use Rattle.compiler.specs.Compiler.{compiled_of}
-use Rattle.compiler.specs.declared.Compiled.{Compiled}
+use Rattle.refusals.specs.Numbers.{Judged}
 use Rattle.stack.specs.Stores.{Stores, id_words, popped_count, popped_rows, popped_ids, held_name, held_kind, released}
 use Rattle.exec.specs.Scans.{Sought, over, stopped}
 use Rattle.shapes.specs.Shapes.{esi_on, sized, state_refusal}
@@ -17,9 +17,8 @@ use Rattle.accepting.specs.declared.Answer.{Answer}
 use Rattle.weighing.specs.Words.{no_ids}
 use Rattle.accepting.specs.Accepting.{Outcome, outcome, reply, refusing, accepted}
 use Rattle.tags.specs.Tags.{whole, begun, lowered, given}
-use Rattle.making.specs.declared.Made.{Made}
 use Rattle.ends.specs.declared.Popped.{Popped}
-use Rattle.making.specs.Making.{Fresh, fresh_of, fresh_call}
+use Rattle.making.specs.Making.{Made, Fresh, fresh_of, fresh_call}
 use Rattle.ends.specs.Ends.{Ended, ended, popping, end_call}
 use Rattle.starts.specs.Starts.{start_call}
 use Rattle.resumes.specs.Resumes.{attributes_call}
@@ -34,7 +33,7 @@ EndKept rows out o = (number : ℕ) → o.answer ≡ Popped.Refused number → o
 
 -- A machine is made, or the instruction store and the rows are those that came in.
 abbrev pub FreshKept : (program rows : List ℕ) → Fresh → Type 0
-FreshKept program rows o = (o.made ≡ Made.Made) ⊎ ((o.program ≡ program) × (o.rows ≡ rows))
+FreshKept program rows o = (o.made ≡ Made.Ready) ⊎ ((o.program ≡ program) × (o.rows ≡ rows))
 
 -- ---- the answers apart
 
@@ -141,7 +140,7 @@ pub fresh_kept : (sheet : List ℕ) (esi : Bool) (program : List ℕ) (s : Store
 unfolding fresh_call fresh_of
 fresh_kept sheet esi program s = go (not (sized s)) (compiled_of (parse_sheet sheet) program)
   where
-    go : (b : Bool) (c : Compiled) → FreshKept program s.rows (cond b (record { made = Made.Refused 31; program = program; rows = s.rows }) (fresh_of sheet esi program s.rows c))
+    go : (b : Bool) (c : Judged Bool) → FreshKept program s.rows (cond b (record { made = Made.Refused 31; program = program; rows = s.rows }) (fresh_of sheet esi program s.rows c))
     go true c = inr (refl, refl)
-    go false (Compiled.Refused number place) = inr (refl, refl)
-    go false (Compiled.Made types) = inl refl
+    go false (Judged.Refused number place) = inr (refl, refl)
+    go false (Judged.Good types) = inl refl

@@ -17,8 +17,7 @@ use Rattle.program.specs.Program.{rows, uses_nth_of_type}
 use Rattle.compiler.specs.Compiler.{places, compiled_of, store_of}
 use Rattle.stack.specs.Stores.{Stores, stores, rows_size, names_size, ids_size, nodes_size, fresh_rows}
 use Rattle.shapes.specs.Shapes.{made_mark, sized}
-use Rattle.making.specs.declared.Made.{Made}
-use Rattle.making.specs.Making.{Fresh, fresh, flags_of, fresh_of, fresh_call}
+use Rattle.making.specs.Making.{Made, Fresh, fresh, flags_of, fresh_of, fresh_call}
 use Rattle.meaning.specs.Lists.{◌∈◌, here, there, Distinct}
 use Rattle.meaning.specs.Document.{start}
 use Rattle.meaning.specs.Trees.{Forest, size}
@@ -128,7 +127,7 @@ module _ (sheet : List ℕ) (bytes : (i : ℕ) → get_or sheet i 0 < 256) (f : 
   after = stores (fresh_rows s.rows made_mark (length sheet) (flags_of esi (uses_nth_of_type f))) s.names s.ids s.nodes
 
   -- A fresh machine is made.
-  fresh-is : fresh_call sheet esi program s ≡ fresh Made.Made (sets program 0 (rows (layout 0 f))) (fresh_rows s.rows made_mark (length sheet) (flags_of esi (uses_nth_of_type f)))
+  fresh-is : fresh_call sheet esi program s ≡ fresh Made.Ready (sets program 0 (rows (layout 0 f))) (fresh_rows s.rows made_mark (length sheet) (flags_of esi (uses_nth_of_type f)))
   unfolding fresh_call fresh_of compiled_of store_of
   fresh-is =
       let h = good.short in
@@ -158,10 +157,10 @@ module _ (sheet : List ℕ) (bytes : (i : ℕ) → get_or sheet i 0 < 256) (f : 
         (subst (λ l. Goes lent_tests f (rows_program C) refusing ghost (idle start) (map (call_of esi) xs) l) (sym answered)
         (demand-3 Lent lent_tests f (rows_program C) (reads-carries lent_tests f (rows_program C) reads) refusing ghost (map (call_of esi) xs)))
 
-    holds : (m : Fresh) → m ≡ fresh Made.Made (sets program 0 (rows (layout 0 f))) after.rows
-        → (m.made ≡ Made.Made) × Goes lent_tests f (sheet_program f) refusing ghost (idle start) (map (call_of esi) xs) (answers sheet m.program (made_in s m) xs) × ((r : ℕ) → refused r ∈ answers sheet m.program (made_in s m) xs → r < 30)
+    holds : (m : Fresh) → m ≡ fresh Made.Ready (sets program 0 (rows (layout 0 f))) after.rows
+        → (m.made ≡ Made.Ready) × Goes lent_tests f (sheet_program f) refusing ghost (idle start) (map (call_of esi) xs) (answers sheet m.program (made_in s m) xs) × ((r : ℕ) → refused r ∈ answers sheet m.program (made_in s m) xs → r < 30)
     holds m e =
-        subst (λ (k : Fresh). (k.made ≡ Made.Made) × Goes lent_tests f (sheet_program f) refusing ghost (idle start) (map (call_of esi) xs) (answers sheet k.program (made_in s k) xs) × ((r : ℕ) → refused r ∈ answers sheet k.program (made_in s k) xs → r < 30)) (sym e)
+        subst (λ (k : Fresh). (k.made ≡ Made.Ready) × Goes lent_tests f (sheet_program f) refusing ghost (idle start) (map (call_of esi) xs) (answers sheet k.program (made_in s k) xs) × ((r : ℕ) → refused r ∈ answers sheet k.program (made_in s k) xs → r < 30)) (sym e)
         (refl, goes_on, goes-low f ghost (idle start) (map (call_of esi) xs) (answers sheet (sets program 0 (rows (layout 0 f))) after xs) goes_on)
 
 -- DEMAND 3 ON BYTES.

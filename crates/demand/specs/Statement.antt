@@ -10,11 +10,10 @@ use Rattle.compiler.specs.Compiler.{places}
 use Rattle.stack.specs.Stores.{Stores, stores, id_words}
 use Rattle.shapes.specs.Shapes.{sized}
 use Rattle.accepting.specs.declared.Answer as accepting
-use Rattle.making.specs.declared.Made.{Made}
 use Rattle.ends.specs.declared.Popped.{Popped}
 use Rattle.ends.specs.declared.Top.{Top}
 use Rattle.accepting.specs.Accepting.{Outcome}
-use Rattle.making.specs.Making.{Fresh, fresh_call}
+use Rattle.making.specs.Making.{Made, Fresh, fresh_call}
 use Rattle.ends.specs.Ends.{Ended, end_call, id_set_call}
 use Rattle.starts.specs.Starts.{start_call}
 use Rattle.resumes.specs.Resumes.{attributes_call}
@@ -94,6 +93,6 @@ abbrev pub Demand3OnBytes : Type 0
 Demand3OnBytes =
     (sheet : List ℕ) → ((i : ℕ) → get_or sheet i 0 < 256) → (forest : Forest NodeRecord) (next : ℕ) → parse_sheet sheet ≡ Parsed.read forest next
     → (esi : Bool) (program : List ℕ) (s : Stores) → size forest ≤ places program → sized s ≡ true → (ghost : Where Lent → Tag → Given Lent) (xs : List HostCall)
-    → ((fresh_call sheet esi program s).made ≡ Made.Made)
+    → ((fresh_call sheet esi program s).made ≡ Made.Ready)
     × Goes lent_tests forest (sheet_program forest) refusing ghost (idle document.start) (map (call_of esi) xs) (answers sheet (fresh_call sheet esi program s).program (made_in s (fresh_call sheet esi program s)) xs)
     × ((r : ℕ) → refused r ∈ answers sheet (fresh_call sheet esi program s).program (made_in s (fresh_call sheet esi program s)) xs → r < 30)

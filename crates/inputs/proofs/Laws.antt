@@ -7,8 +7,7 @@ use lib.ListN.{length}
 use Rattle.cells.specs.Numbers.{part}
 use Rattle.text.specs.Text.{Wrote}
 use Rattle.lines.specs.Lines.{refused_line, sheet_line}
-use Rattle.making.specs.Making.{fresh, fresh_call}
-use Rattle.making.specs.declared.Made.{Made}
+use Rattle.making.specs.Making.{Made, fresh, fresh_call}
 use Rattle.records.specs.Sheets.{sheet_end}
 use Rattle.stack.specs.Stores.{Stores, stores}
 use Rattle.trace.specs.Run.{ran, feed_of}
@@ -16,7 +15,7 @@ use Rattle.block_ends.specs.declared.Fed.{Fed}
 use Rattle.inputs.specs.Inputs.{whole_run, whole_by, whole_of}
 
 module _ (input : List ℕ) (n : ℕ) (e : n ≡ sheet_end input) (program out : List ℕ) (s : Stores) (made : Made) (program₁ rows₁ : List ℕ) (f : fresh made program₁ rows₁ ≡ fresh_call (part input 0 n) false program s) where
-  pub whole-made : made ≡ Made.Made → (r : Fed) (o : List ℕ) (s₁ : Stores) → ran r o s₁ ≡ feed_of (part input 0 n) program₁ (part input n (length input)) true 0 out (stores rows₁ s.names s.ids s.nodes)
+  pub whole-made : made ≡ Made.Ready → (r : Fed) (o : List ℕ) (s₁ : Stores) → ran r o s₁ ≡ feed_of (part input 0 n) program₁ (part input n (length input)) true 0 out (stores rows₁ s.names s.ids s.nodes)
       → whole_run r.wrote program₁ o s₁ ≡ whole_of input program out s
   unfolding whole_of whole_by
   whole-made m r o s₁ q = rw (← e, ← f, m, ← q)

@@ -3,8 +3,7 @@ use Rattle.std.specs.Prelude.{true, false, List, ℕ, ◌+◌, length}
 use Rattle.cells.specs.Numbers.{part}
 use Rattle.cells.specs.Stretches.{written}
 use Rattle.lines.specs.Lines.{refused_line, sheet_line}
-use Rattle.making.specs.Making.{fresh_call}
-use Rattle.making.specs.declared.Made.{Made}
+use Rattle.making.specs.Making.{Made, fresh_call}
 use Rattle.records.specs.Sheets.{sheet_end}
 use Rattle.stack.specs.Stores.{Stores, stores}
 use Rattle.trace.specs.Run.{feed_of}
@@ -21,7 +20,7 @@ whole_run wrote program out after = record { wrote = wrote; program = program; o
 
 -- A refused sheet is the only line; else the trace is answered.
 unfoldable pub whole_by : (sheet trace : List ℕ) → Made → (program out : List ℕ) → Stores → Whole
-whole_by sheet trace Made.Made program out s =
+whole_by sheet trace Made.Ready program out s =
     let r = feed_of sheet program trace true 0 out s in
     whole_run r.fed.wrote program r.out r.after
 whole_by sheet trace (Made.Sheet n place) program out s = whole_run (0 + length (sheet_line n place)) program (written out 0 (sheet_line n place)) s

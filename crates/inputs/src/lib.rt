@@ -6,7 +6,7 @@ ghost use Rattle.stack.specs.Stores.{stores};
 ghost use Rattle.inputs.specs.Inputs.{whole_run, whole_of};
 
 use lines::{put_refused, put_sheet_refused};
-use making::{Made, fresh_machine};
+use making::{Unmade, fresh_machine};
 use records::sheet_end;
 use trace::feed;
 
@@ -28,7 +28,7 @@ pub fn whole(
     let sheet = &input[0..n];
     let made = fresh_machine(sheet, false, program, rows, names, ids, nodes);
     match made {
-        Made::Made => {
+        Ok(()) => {
             let fed = feed(
                 sheet,
                 program,
@@ -43,7 +43,9 @@ pub fn whole(
             );
             fed.wrote
         }
-        Made::Sheet(number, place) => put_sheet_refused(out, 0, number, place),
-        Made::Refused(number) => put_refused(out, 0, number),
+        Err(unmade) => match unmade {
+            Unmade::Sheet(fault) => put_sheet_refused(out, 0, fault.refusal.number(), fault.place),
+            Unmade::Refused(refusal) => put_refused(out, 0, refusal.number()),
+        },
     }
 }

@@ -2,35 +2,38 @@
 #![tactic(auto)]
 
 ghost use Rattle.std.specs.Prelude.{◌≡◌};
+ghost use Rattle.making.specs.Making.{flags_of, made_of, fresh, fresh_call};
+ghost use Rattle.making.specs.declared.Unmade.{Unmade};
 ghost use Rattle.stack.specs.Stores.{stores};
-ghost use Rattle.making.specs.Making.{flags_of, fresh, fresh_call};
 
-use compiler::{Compiled, compile};
+use compiler::compile;
+use refusals::{Fault, Refusal};
 use shapes::is_sized;
 use waiting::fresh_rows;
 use weighing::cell_of;
 
-/// Made; refused for its sheet, with the place; or 31.
-#[derive(Clone, Copy)]
-pub enum Made {
-    Made,
-    Sheet(u8, usize),
-    Refused(u32),
+/// Why no machine is made: its sheet is at fault, or a store is too short.
+#[derive(Clone, Copy, Debug, PartialEq, Eq)]
+pub enum Unmade {
+    Sheet(Fault),
+    Refused(Refusal),
 }
+
+impl From<Fault> for Unmade {
+    ghost from_gives = { λ fault e. e ≡ Unmade.Sheet fault };
+
+    fn from(fault: Fault) -> Unmade {
+        Unmade::Sheet(fault)
+    }
+}
+
+// What the rows of a machine bear.
+const MADE_MARK: u32 = 1383429737;
 
 fn flags_of(esi: bool, types: bool) -> u32
     ensures { result ≡ flags_of esi types }
 {
-    if esi {
-        if types {
-            return 3;
-        }
-        return 1;
-    }
-    if types {
-        return 2;
-    }
-    0
+    u32::from(esi) + 2 * u32::from(types)
 }
 
 /// Makes a machine: checks and compiles the sheet, fixes ESI, whatever the stores held.
@@ -42,19 +45,13 @@ pub fn fresh_machine(
     names: &[u8],
     ids: &[u64],
     nodes: &[u16],
-) -> Made
-    ensures { fresh result program.new rows.new ≡ fresh_call sheet.now esi program.old (stores rows.old names.now ids.now nodes.now) }
+) -> Result<(), Unmade>
+    ensures { fresh (made_of result) program.new rows.new ≡ fresh_call sheet.now esi program.old (stores rows.old names.now ids.now nodes.now) }
 {
     if !is_sized(rows, names, ids, nodes) {
-        return Made::Refused(31);
+        return Err(Unmade::Refused(Refusal::StoreTooShort));
     }
-    match compile(sheet, program) {
-        Compiled::Refused(number, place) => Made::Sheet(number, place),
-        Compiled::Made(types) => {
-            let length = cell_of(sheet.len());
-            let flags = flags_of(esi, types);
-            fresh_rows(rows, 1383429737, length, flags);
-            Made::Made
-        }
-    }
+    let types = compile(sheet, program)?;
+    fresh_rows(rows, MADE_MARK, cell_of(sheet.len()), flags_of(esi, types));
+    Ok(())
 }

@@ -1,2 +1,1 @@
 pub mod TestLaws
-pub mod RecordLaws

@@ -1,10 +1,8 @@
--- Rows: their lengths, what eight stores leave, and the row of a record that stands in the sheet.
+-- Rows: those of two lists, and the row of a record that stands in the sheet.
 use Prim.Native.Nat.{ℕ, zero, suc, ◌+◌, ◌*◌}
 use mathlib.Core.Path.{◌≡◌, refl, sym, ap, ◌∙◌}
 use mathlib.Core.List.{List, [], ◌∷◌, ◌++◌, map, append_assoc}
-use native.Mathlib.Omega.{arith}
-use lib.ListN.{length, get_or, set, length-map}
-use lib.Seq.{sets}
+use lib.ListN.{length, get_or, length-map}
 use Rattle.cells.specs.Numbers.{be16}
 use Rattle.meaning.specs.Document.{Link, child, descendant}
 use Rattle.meaning.specs.Trees.{Forest, width, size}
@@ -17,21 +15,6 @@ pub rows_append : (xs ys : List (Instruction NodeRecord)) → rows (xs ++ ys) �
 unfolding rows
 rows_append [] ys = refl
 rows_append (i ∷ xs) ys = ap (λ (l : List ℕ). row i ++ l) (rows_append xs ys) ∙ sym (append_assoc (row i) (rows xs) (rows ys))
-
--- eight stores, one after the other
-module _ (l : List ℕ) (a : ℕ) where
-  pub row_put : (v₀ v₁ v₂ v₃ v₄ v₅ v₆ v₇ : ℕ) (l₁ l₂ l₃ l₄ l₅ l₆ l₇ l₈ : List ℕ) → l₁ ≡ set l a v₀ → l₂ ≡ set l₁ (a + 1) v₁ → l₃ ≡ set l₂ (a + 2) v₂ → l₄ ≡ set l₃ (a + 3) v₃ →
-      l₅ ≡ set l₄ (a + 4) v₄ → l₆ ≡ set l₅ (a + 5) v₅ → l₇ ≡ set l₆ (a + 6) v₆ → l₈ ≡ set l₇ (a + 7) v₇ → l₈ ≡ sets l a (words v₀ v₁ v₂ v₃ v₄ v₅ v₆ v₇)
-  unfolding words
-  row_put v₀ v₁ v₂ v₃ v₄ v₅ v₆ v₇ l₁ l₂ l₃ l₄ l₅ l₆ l₇ l₈ e₁ e₂ e₃ e₄ e₅ e₆ e₇ e₈ =
-      let k₁ : a + 1 ≡ suc a = omega arith in
-      let k₂ : a + 2 ≡ suc (suc a) = omega arith in
-      let k₃ : a + 3 ≡ suc (suc (suc a)) = omega arith in
-      let k₄ : a + 4 ≡ suc (suc (suc (suc a))) = omega arith in
-      let k₅ : a + 5 ≡ suc (suc (suc (suc (suc a)))) = omega arith in
-      let k₆ : a + 6 ≡ suc (suc (suc (suc (suc (suc a))))) = omega arith in
-      let k₇ : a + 7 ≡ suc (suc (suc (suc (suc (suc (suc a)))))) = omega arith in
-      rw (e₈, e₇, e₆, e₅, e₄, e₃, e₂, e₁, k₁, k₂, k₃, k₄, k₅, k₆, k₇) refl
 
 tests-length : (s : List ℕ) (n at : ℕ) → length (tests_from s n at) ≡ n
 unfolding tests_from

@@ -3,7 +3,7 @@ use Prim.Native.Nat.{ℕ, zero, suc, ◌+◌, ◌-◌, ◌≤◌, ◌<◌}
 use mathlib.Core.Path.{◌≡◌, refl}
 use mathlib.Core.Bool.{Bool, true, false, cond, not}
 use mathlib.Core.List.{List, map}
-use native.Mathlib.Numerals.{sub-one}
+use native.Mathlib.Numerals.{add-one}
 use native.Mathlib.Omega.{arith}
 use lib.Dec.{eqb}
 use lib.IntN.{ℤ}
@@ -27,17 +27,17 @@ other_key false false false true name x y z w = refl
 other_key false false false false name x y z w = refl
 
 module _ (test : List ℕ) where
-  pub key-other : (get_or test 0 0 ≡ 3 → ⊥) → 0 ≡ test_key (read_tag_test test)
+  pub key_other : (get_or test 0 0 ≡ 3 → ⊥) → 0 ≡ test_key (read_tag_test test)
   unfolding test_key read_tag_test tag_kind
-  key-other a = rw (ne_eqb _ _ a) (other_key (not (eqb (get_or test 1 0) 0)) (eqb (get_or test 0 0) 1) (eqb (get_or test 0 0) 4) (eqb (get_or test 0 0) 5) (part test 2 (length test)) (i32_at (part test 2 (length test)) 0) (i32_at (part test 2 (length test)) 4) (i32_at (part test 2 (length test)) 0) (i32_at (part test 2 (length test)) 4))
+  key_other a = rw (ne_eqb _ _ a) (other_key (not (eqb (get_or test 1 0) 0)) (eqb (get_or test 0 0) 1) (eqb (get_or test 0 0) 4) (eqb (get_or test 0 0) 5) (part test 2 (length test)) (i32_at (part test 2 (length test)) 0) (i32_at (part test 2 (length test)) 4) (i32_at (part test 2 (length test)) 0) (i32_at (part test 2 (length test)) 4))
 
-  pub key-negated : (get_or test 1 0 ≡ 0 → ⊥) → 0 ≡ test_key (read_tag_test test)
+  pub key_negated : (get_or test 1 0 ≡ 0 → ⊥) → 0 ≡ test_key (read_tag_test test)
   unfolding test_key read_tag_test
-  key-negated a = rw (ne_eqb _ _ a) refl
+  key_negated a = rw (ne_eqb _ _ a) refl
 
-  pub key-name : get_or test 0 0 ≡ 3 → get_or test 1 0 ≡ 0 → (name : List ℕ) → name ≡ part test 2 (length test) → name_key name ≡ test_key (read_tag_test test)
+  pub key_name : get_or test 0 0 ≡ 3 → get_or test 1 0 ≡ 0 → (name : List ℕ) → name ≡ part test 2 (length test) → name_key name ≡ test_key (read_tag_test test)
   unfolding test_key read_tag_test tag_kind tag_key
-  key-name a b name e = rw (a, b, e) refl
+  key_name a b name e = rw (a, b, e) refl
 
 -- kind 5 and no other
 of-kind : (k : ℕ) (name : List ℕ) (x y z w : ℤ) (b₁ b₃ b₄ b₅ : Bool) → eqb k 1 ≡ b₁ → eqb k 3 ≡ b₃ → eqb k 4 ≡ b₄ → eqb k 5 ≡ b₅ → b₅ ≡ of_type (cond b₁ any (cond b₃ (local_name name) (cond b₄ (nth_child x y) (cond b₅ (nth_of_type z w) unmatchable))))
@@ -65,23 +65,19 @@ module _ (s : List ℕ) where
   unfolding node_key tests_from
   no_key n at h = rw h refl
 
-  pub tests-first : (end n at : ℕ) → 0 < n → TestsInside s end n at → (at + 4 ≤ end_of s at) × ((end_of s at ≤ end) × TestsInside s end (n - 1) (end_of s at))
+  pub tests-first : (end n : ℕ) {m : ℕ} (at : ℕ) → m ≡ n + 1 → TestsInside s end m at → (at + 4 ≤ end_of s at) × ((end_of s at ≤ end) × TestsInside s end n (end_of s at))
   unfolding TestsInside
-  tests-first end zero at h t = absurd (omega arith)
-  tests-first end (suc n) at h t = rw sub-one t
+  tests-first end n at h t = rw (h, add-one) at t
 
-  pub any_none : (n at : ℕ) → n ≤ 0 → any_of_type (map read_tag_test (tests_from s n at)) ≡ false
+  pub any_none : (n at : ℕ) → n ≡ 0 → any_of_type (map read_tag_test (tests_from s n at)) ≡ false
   unfolding any_of_type tests_from
-  any_none zero at h = refl
-  any_none (suc n) at h = absurd (omega arith)
+  any_none n at h = rw h refl
 
-  module _ (k : ℕ) (test : List ℕ) (found : Bool) (e : found ≡ of_type (read_tag_test test).test) where
-    pub any_found : (n at : ℕ) → 0 < n → k ≡ be16 s at → test ≡ part s (at + 2) (at + 2 + k) → found ≡ true → any_of_type (map read_tag_test (tests_from s n at)) ≡ true
+  module _ (k : ℕ) (test : List ℕ) (found : Bool) (e : found ≡ of_type (read_tag_test test).test) (n : ℕ) {m : ℕ} (at : ℕ) (h : m ≡ n + 1) (x : k ≡ be16 s at) (y : test ≡ part s (at + 2) (at + 2 + k)) where
+    pub any_found : found ≡ true → any_of_type (map read_tag_test (tests_from s m at)) ≡ true
     unfolding any_of_type tests_from
-    any_found zero at h x y z = absurd (omega arith)
-    any_found (suc n) at h x y z = rw (← x, ← y, ← e, z) refl
+    any_found z = rw (h, add-one, ← x, ← y, ← e, z) refl
 
-    pub any-more : (n at : ℕ) → 0 < n → k ≡ be16 s at → test ≡ part s (at + 2) (at + 2 + k) → found ≡ false → any_of_type (map read_tag_test (tests_from s n at)) ≡ any_of_type (map read_tag_test (tests_from s (n - 1) (at + 2 + k)))
+    pub any-more : found ≡ false → any_of_type (map read_tag_test (tests_from s m at)) ≡ any_of_type (map read_tag_test (tests_from s n (at + 2 + k)))
     unfolding any_of_type tests_from
-    any-more zero at h x y z = absurd (omega arith)
-    any-more (suc n) at h x y z = rw (sub-one, ← x, ← y, ← e, z) refl
+    any-more z = rw (h, add-one, ← x, ← y, ← e, z) refl

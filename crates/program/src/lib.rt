@@ -12,36 +12,45 @@ ghost use Rattle.program.specs.Program.{test_key, node_key, words, row, any_of_t
 use cells::numbers::u16_at;
 use cells::{at8, part_of, put32};
 use names::name_key;
+use node_records::Links;
+
+// The kinds of tests that say something of a tag's name.
+const LOCAL_NAME: usize = 3;
+
+const NTH_OF_TYPE: usize = 5;
+
+/// How many words a row has.
+pub const ROW_WORDS: usize = 8;
 
 // The name key of one test: its name's if it is a local name, not negated.
+#[tactic(auto, using(crate::proofs::TestLaws::key_other, crate::proofs::TestLaws::key_negated, crate::proofs::TestLaws::key_name))]
 fn test_key(test: &[u8]) -> u32
     ensures { result ≡ test_key (read_tag_test test.now) }
 {
-    if at8(test, 0) != 3 {
-        return 0;
+    if at8(test, 0) == LOCAL_NAME && at8(test, 1) == 0 {
+        name_key(part_of(test, 2, test.len()))
+    } else {
+        0
     }
-    if at8(test, 1) != 0 {
-        return 0;
-    }
-    name_key(part_of(test, 2, test.len()))
 }
 
 // The name key of the `count` tests at `at`: the first one's.
+#[tactic(auto, using(crate::proofs::TestLaws::first_key, crate::proofs::TestLaws::no_key))]
 fn node_key(s: &[u8], count: usize, at: usize) -> u32
     requires { at ≤ 65536 }
     ensures { result ≡ node_key (map read_tag_test (tests_from s.now count at)) }
 {
-    if count == 0 {
-        return 0;
+    match count {
+        0 => 0,
+        _ => test_key(part_of(s, at + 2, at + 2 + u16_at(s, at))),
     }
-    test_key(part_of(s, at + 2, at + 2 + u16_at(s, at)))
 }
 
 // Kind 5.
 fn is_of_type(test: &[u8]) -> bool
     ensures { result ≡ of_type (read_tag_test test.now).test }
 {
-    at8(test, 0) == 5
+    at8(test, 0) == NTH_OF_TYPE
 }
 
 // Is a test of kind 5 among the `count` tests at `at`, which end before `end`?
@@ -49,27 +58,18 @@ pub fn any_of_type(s: &[u8], end: usize, count: usize, at: usize) -> bool
     requires { (end ≤ 65536) × TestsInside s.now end count at }
     ensures { result ≡ any_of_type (map read_tag_test (tests_from s.now count at)) }
 {
-    let mut left = count;
     let mut here = at;
-    while 0 < left {
-        let n = u16_at(s, here);
-        if is_of_type(part_of(s, here + 2, here + 2 + n)) {
+    for _ in 0..count {
+        let next = here + 2 + u16_at(s, here);
+        if is_of_type(part_of(s, here + 2, next)) {
             return true;
         }
-        here = here + 2 + n;
-        left -= 1;
+        here = next;
     }
     false
 }
 
-/// Where a record ends, and how many child trees and descendant trees follow it.
-#[derive(Clone, Copy)]
-pub struct Links {
-    pub next: usize,
-    pub children: usize,
-    pub descendants: usize,
-}
-
+/// What follows the record at `at`, which stands in a good sheet.
 pub fn links_at(s: &[u8], at: usize) -> Links
     requires { (length s.now ≤ 65536) × Inside s.now at }
     ensures next_value { result.next ≡ end_of s.now at }
@@ -91,29 +91,35 @@ pub struct AddressRange {
     pub count: u32,
 }
 
-// The eight words of a row.
-fn put_row(
-    store: &mut [u32],
-    slot: usize,
+// An instruction in words: where its record and its first test stand, its numbers of tests, its blocks, its name key.
+#[derive(Clone, Copy)]
+struct Row {
     place: u32,
     test: u32,
     counts: u32,
     children: AddressRange,
     descendants: AddressRange,
     key: u32,
-)
+}
+
+#[tactic(auto, unfolding(crate::specs::Program::words))]
+fn put_row(store: &mut [u32], slot: usize, row: Row)
     requires { slot ≤ 1024 }
-    ensures { store.new ≡ sets store.old (slot * 8) (words place test counts children.first children.count descendants.first descendants.count key) }
+    ensures { store.new ≡ sets store.old (slot * 8) (words row.place row.test row.counts row.children.first row.children.count row.descendants.first row.descendants.count row.key) }
 {
-    let at = slot * 8;
-    put32(store, at, place);
-    put32(store, at + 1, test);
-    put32(store, at + 2, counts);
-    put32(store, at + 3, children.first);
-    put32(store, at + 4, children.count);
-    put32(store, at + 5, descendants.first);
-    put32(store, at + 6, descendants.count);
-    put32(store, at + 7, key);
+    let words = [
+        row.place,
+        row.test,
+        row.counts,
+        row.children.first,
+        row.children.count,
+        row.descendants.first,
+        row.descendants.count,
+        row.key,
+    ];
+    for i in 0..ROW_WORDS {
+        put32(store, slot * ROW_WORDS + i, words[i]);
+    }
 }
 
 /// Writes the instruction of the record at `at`, whose blocks begin at two addresses.
@@ -133,23 +139,22 @@ pub fn put_instruction(
     let tags = at8(s, counts);
     let attributes = at8(s, counts + 1);
     let tests = counts + 6;
-    let key = node_key(s, tags, tests);
-    let child_range = AddressRange {
-        first: children as u32,
-        count: u16_at(s, counts + 2) as u32,
-    };
-    let descendant_range = AddressRange {
-        first: descendants as u32,
-        count: u16_at(s, counts + 4) as u32,
-    };
     put_row(
         store,
         slot,
-        at as u32,
-        tests as u32,
-        (tags * 256 + attributes) as u32,
-        child_range,
-        descendant_range,
-        key,
+        Row {
+            place: at as u32,
+            test: tests as u32,
+            counts: (tags * 256 + attributes) as u32,
+            children: AddressRange {
+                first: children as u32,
+                count: u16_at(s, counts + 2) as u32,
+            },
+            descendants: AddressRange {
+                first: descendants as u32,
+                count: u16_at(s, counts + 4) as u32,
+            },
+            key: node_key(s, tags, tests),
+        },
     );
 }

@@ -1,6 +1,7 @@
 -- The numbers of refusals (01, section 2).
 use Rattle.std.specs.Prelude.{ℕ, Result, Ok, Err}
 use Rattle.refusals.specs.declared.SheetRefusal.{SheetRefusal}
+use Rattle.refusals.specs.declared.Fault.{Fault}
 use Rattle.refusals.specs.declared.Refusal.{Refusal}
 
 -- Of a sheet: 1 to 13 by its bytes, 15 by the room for its instructions. 14 is no refusal.
@@ -19,6 +20,19 @@ sheet_number SheetRefusal.UnknownKind = 11
 sheet_number SheetRefusal.BadTest = 12
 sheet_number SheetRefusal.LeftOver = 13
 sheet_number SheetRefusal.ProgramTooShort = 15
+
+abbrev pub fault : SheetRefusal → ℕ → Fault
+fault refusal place = record { refusal = refusal; place = place }
+
+-- What a sheet, or a piece of it, is judged: good, with what was read; or the number and the place of its first fault.
+pub data Judged (A : Type 0) : Type 0 where
+  Refused : (number place : ℕ) → Judged A
+  Good : A → Judged A
+
+-- What the code answers, in numbers.
+abbrev pub judged : {A : Type 0} → Result A Fault → Judged A
+judged (Ok x) = Judged.Good x
+judged (Err fault) = Judged.Refused (sheet_number fault.refusal) fault.place
 
 -- Of a call.
 abbrev pub number : Refusal → ℕ

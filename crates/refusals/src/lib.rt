@@ -2,7 +2,7 @@
 #![tactic(auto)]
 
 ghost use Rattle.std.specs.Prelude.{◌≡◌};
-ghost use Rattle.refusals.specs.Numbers.{sheet_number, number};
+ghost use Rattle.refusals.specs.Numbers.{sheet_number, number, fault};
 
 /// What is wrong with a sheet that is to be compiled: 1 to 13, and 15.
 #[derive(Clone, Copy, Debug, PartialEq, Eq)]
@@ -29,6 +29,16 @@ impl SheetRefusal {
         ensures { result ≡ sheet_number self }
     {
         self as u8
+    }
+
+    /// As the fault of the piece at a place.
+    pub fn at(self, place: usize) -> Fault
+        ensures { result ≡ fault self place }
+    {
+        Fault {
+            refusal: self,
+            place,
+        }
     }
 }
 

@@ -6,7 +6,7 @@ ghost use Rattle.std.specs.Prelude.{◌≡◌, length};
 
 use block_ends::Halt;
 use lines::{put_refused, put_sheet_refused};
-use making::{Made, fresh_machine};
+use making::{Unmade, fresh_machine};
 use std::io::{Read, Result, Write};
 use std::process::ExitCode;
 use trace_blocks::{Progress, read_sheet, turn};
@@ -81,7 +81,7 @@ fn answer<R: Read, W: Write>(reader: &mut R, writer: &mut W) -> Result<()> {
         &nodes,
     );
     match made {
-        Made::Made => run(
+        Ok(()) => run(
             reader,
             writer,
             &sheet[0..n],
@@ -93,12 +93,12 @@ fn answer<R: Read, W: Write>(reader: &mut R, writer: &mut W) -> Result<()> {
             &mut input,
             &mut out,
         ),
-        Made::Sheet(number, place) => {
-            let wrote = put_sheet_refused(&mut out, 0, number, place);
+        Err(Unmade::Sheet(fault)) => {
+            let wrote = put_sheet_refused(&mut out, 0, fault.refusal.number(), fault.place);
             writer.write_all(&out[0..wrote])
         }
-        Made::Refused(number) => {
-            let wrote = put_refused(&mut out, 0, number);
+        Err(Unmade::Refused(refusal)) => {
+            let wrote = put_refused(&mut out, 0, refusal.number());
             writer.write_all(&out[0..wrote])
         }
     }

@@ -13,8 +13,7 @@ use Rattle.meaning.specs.Trees.{Forest, Node, width, size, Within}
 use Rattle.node_records.specs.Records.{NodeRecord, record_at, end_of, counts_at, tag_count, attribute_count, child_count, descendant_count, tests_at, tests_end}
 use Rattle.node_records.specs.Checks.{then_step, kind_ok, body_ok, check_test, check_tests, rising, check_counts, check_ids, check_record}
 use Rattle.sheet.specs.Parser.{Parsed, and_then, after_step, tree_size, parse_tree, parse_many, tree_at, parse_trees, parse_end, parse_sheet, node_count, root_count, checked_of}
-use Rattle.node_records.specs.declared.Step.{Step}
-use Rattle.sheet.specs.declared.Checked.{Checked}
+use Rattle.refusals.specs.Numbers.{Judged}
 use Rattle.sheet.specs.Spelling.{TestsInside, Inside, Spells, Sheet}
 
 -- ---- what holds of each reading that is good
@@ -25,17 +24,17 @@ module _ {A : Type 0} (P : A → Type 0) where
   told true x y p q = p
   told false x y p q = q refl
 
-module _ (P Q : Step → Type 0) (refused : (number place : ℕ) → P (Step.Refused number place)) where
-  then-told : (r : Step) (k : ℕ → Step) → Q r → ((n : ℕ) → Q (Step.Next n) → P (k n)) → P (then_step r k)
+module _ (P Q : Judged ℕ → Type 0) (refused : (number place : ℕ) → P (Judged.Refused number place)) where
+  then-told : (r : Judged ℕ) (k : ℕ → Judged ℕ) → Q r → ((n : ℕ) → Q (Judged.Good n) → P (k n)) → P (then_step r k)
   unfolding then_step
-  then-told (Step.Refused w p) k q f = refused w p
-  then-told (Step.Next n) k q f = f n q
+  then-told (Judged.Refused w p) k q f = refused w p
+  then-told (Judged.Good n) k q f = f n q
 
 module _ {B : Type 0} (P : Parsed B → Type 0) (refused : (number place : ℕ) → P (Parsed.refused number place)) where
-  after-told : (Q : Step → Type 0) (r : Step) (k : ℕ → Parsed B) → Q r → ((n : ℕ) → Q (Step.Next n) → P (k n)) → P (after_step r k)
+  after-told : (Q : Judged ℕ → Type 0) (r : Judged ℕ) (k : ℕ → Parsed B) → Q r → ((n : ℕ) → Q (Judged.Good n) → P (k n)) → P (after_step r k)
   unfolding after_step
-  after-told Q (Step.Refused w p) k q f = refused w p
-  after-told Q (Step.Next n) k q f = f n q
+  after-told Q (Judged.Refused w p) k q f = refused w p
+  after-told Q (Judged.Good n) k q f = f n q
 
   and-told : {A : Type 0} (Q : Parsed A → Type 0) (r : Parsed A) (k : A → ℕ → Parsed B) → Q r → ((x : A) (n : ℕ) → Q (Parsed.read x n) → P (k x n)) → P (and_then r k)
   unfolding and_then
@@ -43,9 +42,9 @@ module _ {B : Type 0} (P : Parsed B → Type 0) (refused : (number place : ℕ) 
   and-told Q (Parsed.read x n) k q f = f x n q
 
 module _ (s : List ℕ) (end : ℕ) where
-  abbrev TestOk : ℕ → Step → Type 0
-  TestOk at (Step.Refused w p) = Unit
-  TestOk at (Step.Next n) = (n ≡ end_of s at) × ((at + 4 ≤ end_of s at) × (end_of s at ≤ end))
+  abbrev TestOk : ℕ → Judged ℕ → Type 0
+  TestOk at (Judged.Refused w p) = Unit
+  TestOk at (Judged.Good n) = (n ≡ end_of s at) × ((at + 4 ≤ end_of s at) × (end_of s at ≤ end))
 
   test : (node : ℕ) (attributes : Bool) (at : ℕ) → TestOk at (check_test s node end attributes at)
   unfolding check_test
@@ -58,14 +57,14 @@ module _ (s : List ℕ) (end : ℕ) where
       told (TestOk at) (not (body_ok (get_or s (at + 2) 0) (part s (at + 4) (end_of s at)))) _ _ tt (λ _.
       let h = ltb-false (be16 s at) 2 d in (refl, (omega arith, ltb-false end (end_of s at) b))))))))
 
-  abbrev TestsOk : (n at : ℕ) → Step → Type 0
-  TestsOk n at (Step.Refused w p) = Unit
-  TestsOk n at (Step.Next m) = (m ≡ tests_end s n at) × TestsInside s end n at
+  abbrev TestsOk : (n at : ℕ) → Judged ℕ → Type 0
+  TestsOk n at (Judged.Refused w p) = Unit
+  TestsOk n at (Judged.Good m) = (m ≡ tests_end s n at) × TestsInside s end n at
 
-  one_more : (n at m : ℕ) (r : Step) → TestOk at (Step.Next m) → TestsOk n m r → TestsOk (suc n) at r
+  one_more : (n at m : ℕ) (r : Judged ℕ) → TestOk at (Judged.Good m) → TestsOk n m r → TestsOk (suc n) at r
   unfolding tests_end TestsInside
-  one_more n at m (Step.Refused w p) t o = tt
-  one_more n at m (Step.Next z) t o =
+  one_more n at m (Judged.Refused w p) t o = tt
+  one_more n at m (Judged.Good z) t o =
       (o.0 ∙ ap (tests_end s n) t.0, (t.1.0, (t.1.1, rw t.0 at o.1)))
 
   tests : (node : ℕ) (attributes : Bool) (n at : ℕ) → TestsOk n at (check_tests s node end attributes n at)
@@ -76,12 +75,12 @@ module _ (s : List ℕ) (end : ℕ) where
       (λ m t. one_more n at m (check_tests s node end attributes n m) t (tests node attributes n m))
 
 module _ (s : List ℕ) (at : ℕ) where
-  abbrev RecordOk : Step → Type 0
-  RecordOk (Step.Refused w p) = Unit
-  RecordOk (Step.Next n) = (n ≡ end_of s at) × Inside s at
+  abbrev RecordOk : Judged ℕ → Type 0
+  RecordOk (Judged.Refused w p) = Unit
+  RecordOk (Judged.Good n) = (n ≡ end_of s at) × Inside s at
 
-  record-told : (b : Bool) (w p : ℕ) (y : Step) → (b ≡ false → RecordOk y) → RecordOk (cond b (Step.Refused w p) y)
-  record-told b w p y f = told RecordOk b (Step.Refused w p) y tt f
+  record-told : (b : Bool) (w p : ℕ) (y : Judged ℕ) → (b ≡ false → RecordOk y) → RecordOk (cond b (Judged.Refused w p) y)
+  record-told b w p y f = told RecordOk b (Judged.Refused w p) y tt f
 
   counts : end_of s at ≤ length s → rising 0 (part s (at + 3) (counts_at s at)) ≡ true → RecordOk (check_counts s at (end_of s at) (counts_at s at))
   unfolding check_counts
@@ -185,13 +184,13 @@ module _ (s : List ℕ) where
     pub forest : Forest NodeRecord
     pub is : parse_sheet s ≡ Parsed.read forest (length s)
 
-  taken_of : (r : Parsed (Forest NodeRecord)) → SheetOk r → Checked.Good ≡ checked_of r → parse_sheet s ≡ r → Taken
+  taken_of : (r : Parsed (Forest NodeRecord)) → SheetOk r → Judged.Good tt ≡ checked_of r → parse_sheet s ≡ r → Taken
   unfolding checked_of
   taken_of (Parsed.refused w p) k e f = let z : ◌≡◌ {A = ℕ} 0 1 = cc in absurd (omega arith)
   taken_of (Parsed.read forest m) k e f = record { forest = forest; is = f ∙ ap (Parsed.read forest) k.1 }
 
   -- A good sheet has a forest,
-  pub taken : Checked.Good ≡ checked_of (parse_sheet s) → Taken
+  pub taken : Judged.Good tt ≡ checked_of (parse_sheet s) → Taken
   taken e = taken_of (parse_sheet s) parsed e refl
 
   -- and no other.

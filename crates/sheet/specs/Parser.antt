@@ -5,9 +5,8 @@ use Rattle.meaning.specs.Document.{child, descendant, by_link}
 use Rattle.meaning.specs.Trees.{Forest, Node, size}
 use Rattle.node_records.specs.Records.{NodeRecord, record_at, child_count, descendant_count}
 use Rattle.node_records.specs.Checks.{check_record}
-use Rattle.node_records.specs.declared.Step.{Step}
-use Rattle.sheet.specs.declared.Walk.{Walk}
-use Rattle.sheet.specs.declared.Checked.{Checked}
+use Rattle.refusals.specs.Numbers.{Judged}
+use Rattle.sheet.specs.declared.Walked.{Walked}
 
 -- ---- trees
 
@@ -21,9 +20,9 @@ unfoldable pub and_then : {A B : Type 0} → Parsed A → (A → ℕ → Parsed 
 and_then (refused number place) more = refused number place
 and_then (read x next) more = more x next
 
-unfoldable pub after_step : {A : Type 0} → Step → (ℕ → Parsed A) → Parsed A
-after_step (Step.Refused number place) more = refused number place
-after_step (Step.Next next) more = more next
+unfoldable pub after_step : {A : Type 0} → Judged ℕ → (ℕ → Parsed A) → Parsed A
+after_step (Judged.Refused number place) more = refused number place
+after_step (Judged.Good next) more = more next
 
 -- How many nodes a tree has.
 abbrev pub tree_size : Node NodeRecord → ℕ
@@ -84,12 +83,15 @@ parse_sheet s =
 
 -- ---- what the code answers: the same with what was read forgotten
 
+abbrev pub on : (next used : ℕ) → Judged Walked
+on next used = Judged.Good (record { next = next; used = used })
+
 -- Where trees end, and how many nodes were read up to there.
-unfoldable pub walk_of : {A : Type 0} → (A → ℕ) → (used : ℕ) → Parsed A → Walk
-walk_of nodes used (refused number place) = Walk.Refused number place
-walk_of nodes used (read x next) = Walk.On next (used + nodes x)
+unfoldable pub walk_of : {A : Type 0} → (A → ℕ) → (used : ℕ) → Parsed A → Judged Walked
+walk_of nodes used (refused number place) = Judged.Refused number place
+walk_of nodes used (read x next) = on next (used + nodes x)
 
 -- The checker's answer: good, or 01's number and place.
-unfoldable pub checked_of : Parsed (Forest NodeRecord) → Checked
-checked_of (refused number place) = Checked.Refused number place
-checked_of (read forest next) = Checked.Good
+unfoldable pub checked_of : Parsed (Forest NodeRecord) → Judged Unit
+checked_of (refused number place) = Judged.Refused number place
+checked_of (read forest next) = Judged.Good tt

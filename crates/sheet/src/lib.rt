@@ -3,105 +3,100 @@
 
 ghost use Rattle.std.specs.Prelude.{◌≡◌, ◌≤◌, length};
 ghost use Rattle.meaning.specs.Trees.{size};
+ghost use Rattle.refusals.specs.Numbers.{judged};
 ghost use Rattle.sheet.specs.Parser.{walk_of, tree_size, tree_at, parse_trees, checked_of, parse_sheet};
 
 use cells::at8;
 use cells::numbers::{u16_at, u32_at};
-use node_records::{Counts, check_record};
+use node_records::check_record;
+use refusals::{Fault, SheetRefusal};
 
-// Where trees end and how many nodes were read up to there, or a refusal and its place.
-#[derive(Drop)]
-enum Walk {
-    On(usize, usize),
-    Refused(u8, usize),
-}
+/// Where the first record stands: before it are the version, the length, the number of nodes and that of root nodes.
+pub const HEADER_LENGTH: usize = 9;
 
-/// The answer: good, or 01's number and place.
+const MAX_LENGTH: usize = 65536;
+
+const MAX_NODES: usize = 1024;
+
+/// How many levels of nodes a sheet may have.
+pub const MAX_DEPTH: usize = 32;
+
+// Where the next record is, and how many nodes came before it.
 #[derive(Clone, Copy)]
-pub enum Checked {
-    Good,
-    Refused(u8, usize),
+struct Walked {
+    next: usize,
+    used: usize,
 }
 
-// The tree at `at`, with `depth` levels left; `used` nodes came before it, of `total`.
+// The tree at `here`, with `depth` levels left, of a sheet of `total` nodes.
+#[tactic(auto, unfolding(crate::specs::Parser::tree_at, crate::specs::Parser::parse_tree, crate::specs::Parser::walk_of))]
 #[cycle(check_tree_check_trees)]
-fn check_tree(s: &[u8], total: usize, depth: usize, at: usize, used: usize) -> Walk
+fn check_tree(s: &[u8], total: usize, depth: usize, here: Walked) -> Result<Walked, Fault>
     requires { 2 ≤ length s.now }
-    ensures { result ≡ walk_of tree_size used (tree_at depth s.now total at used) }
+    ensures { judged result ≡ walk_of tree_size here.used (tree_at depth s.now total here.next here.used) }
 {
     if depth == 0 {
-        return Walk::Refused(6, at);
+        return Err(SheetRefusal::TooDeep.at(here.next));
     }
-    if total <= used {
-        return Walk::Refused(7, at);
+    if total <= here.used {
+        return Err(SheetRefusal::MoreNodesThanSaid.at(here.next));
     }
-    match check_record(s, at) {
-        Counts::Refused(number, place) => Walk::Refused(number, place),
-        Counts::Read {
-            next,
-            children,
-            descendants,
-        } => match check_trees(s, total, depth - 1, children, next, used + 1) {
-            Walk::Refused(number, place) => Walk::Refused(number, place),
-            Walk::On(p, u) => check_trees(s, total, depth - 1, descendants, p, u),
-        },
-    }
+    let links = check_record(s, here.next)?;
+    let first = Walked {
+        next: links.next,
+        used: here.used + 1,
+    };
+    let middle = check_trees(s, total, depth - 1, links.children, first)?;
+    check_trees(s, total, depth - 1, links.descendants, middle)
 }
 
-// `count` trees side by side, the first at `at`.
+// `count` trees side by side, the first at `start`.
 #[cycle(check_tree_check_trees)]
-fn check_trees(s: &[u8], total: usize, depth: usize, count: usize, at: usize, used: usize) -> Walk
+fn check_trees(
+    s: &[u8],
+    total: usize,
+    depth: usize,
+    count: usize,
+    start: Walked,
+) -> Result<Walked, Fault>
     requires { 2 ≤ length s.now }
-    ensures { result ≡ walk_of size used (parse_trees depth s.now total count at used) }
+    ensures { judged result ≡ walk_of size start.used (parse_trees depth s.now total count start.next start.used) }
 {
-    let mut left = count;
-    let mut here = at;
-    let mut seen = used;
-    while 0 < left {
-        match check_tree(s, total, depth, here, seen) {
-            Walk::Refused(number, place) => {
-                return Walk::Refused(number, place);
-            }
-            Walk::On(p, u) => {
-                here = p;
-                seen = u;
-                left -= 1;
-            }
-        }
+    let mut here = start;
+    for _ in 0..count {
+        here = check_tree(s, total, depth, here)?;
     }
-    Walk::On(here, seen)
+    Ok(here)
 }
 
-/// Any bytes are answered: good, or the first fault's number and place.
-pub fn check_sheet(s: &[u8]) -> Checked
-    ensures { result ≡ checked_of (parse_sheet s.now) }
+/// Any bytes are answered: good, or the first fault.
+#[tactic(auto, unfolding(crate::specs::Parser::parse_sheet, crate::specs::Parser::checked_of, crate::specs::Parser::and_then, crate::specs::Parser::parse_end))]
+pub fn check_sheet(s: &[u8]) -> Result<(), Fault>
+    ensures { judged result ≡ checked_of (parse_sheet s.now) }
 {
-    if s.len() < 9 {
-        return Checked::Refused(1, 0);
+    if s.len() < HEADER_LENGTH {
+        return Err(SheetRefusal::SheetTooShort.at(0));
     }
-    if 65536 < s.len() {
-        return Checked::Refused(2, 0);
+    if MAX_LENGTH < s.len() {
+        return Err(SheetRefusal::SheetTooLong.at(0));
     }
     if at8(s, 0) != 1 {
-        return Checked::Refused(3, 0);
+        return Err(SheetRefusal::WrongVersion.at(0));
     }
     if u32_at(s, 1) != s.len() {
-        return Checked::Refused(4, 0);
+        return Err(SheetRefusal::WrongLength.at(0));
     }
     let total = u16_at(s, 5);
-    if 1024 < total {
-        return Checked::Refused(5, 0);
+    if MAX_NODES < total {
+        return Err(SheetRefusal::TooManyNodes.at(0));
     }
-    match check_trees(s, total, 32, u16_at(s, 7), 9, 0) {
-        Walk::Refused(number, place) => Checked::Refused(number, place),
-        Walk::On(at, used) => {
-            if at != s.len() {
-                return Checked::Refused(13, at);
-            }
-            if used != total {
-                return Checked::Refused(13, at);
-            }
-            Checked::Good
-        }
+    let roots = Walked {
+        next: HEADER_LENGTH,
+        used: 0,
+    };
+    let end = check_trees(s, total, MAX_DEPTH, u16_at(s, 7), roots)?;
+    if end.next != s.len() || end.used != total {
+        return Err(SheetRefusal::LeftOver.at(end.next));
     }
+    Ok(())
 }

@@ -4,10 +4,10 @@
 
 ghost use Rattle.std.specs.Prelude.{◌≡◌, length};
 
-use cells::at8;
 use cells::numbers::{u16_at, u32_at};
-use compiler::{Compiled, compile};
-use sheet::{Checked, check_sheet};
+use compiler::compile;
+use refusals::Fault;
+use sheet::check_sheet;
 use std::fs;
 use std::io::{Read, Result, Write, writer};
 use std::process::ExitCode;
@@ -15,75 +15,33 @@ use std::rt::Files;
 use streams::{read_between, read_full};
 
 #[derive(Clone, Copy)]
-pub enum Verdict {
+enum Verdict {
     Agrees,
     Differs,
     NoMore,
     Broken,
 }
 
-// Room for the longest sheet.
-fn bytes() -> [u8; 65536]
-    ensures { length result ≡ 65536 }
+fn filled<T: Copy, const N: usize>(cell: T) -> [T; N]
+    ensures { length result ≡ N }
 {
-    [0; 65536]
+    [cell; N]
 }
 
-// Room for 1,024 instructions.
-fn rows() -> [u32; 8192]
-    ensures { length result ≡ 8192 }
-{
-    [0; 8192]
-}
-
-// The checker's answer as a number and a place, 0 for a good sheet; compiled, 15 comes in too.
-#[derive(Drop)]
-struct Answer {
-    number: usize,
-    place: usize,
-}
-
-fn checked(s: &[u8]) -> Answer {
-    match check_sheet(s) {
-        Checked::Good => Answer {
-            number: 0,
-            place: 0,
-        },
-        Checked::Refused(number, place) => Answer {
-            number: number as usize,
-            place,
-        },
-    }
-}
-
-fn compiled(s: &[u8], store: &mut [u32]) -> Answer {
-    match compile(s, store) {
-        Compiled::Made(_) => Answer {
-            number: 0,
-            place: 0,
-        },
-        Compiled::Refused(number, place) => Answer {
-            number: number as usize,
-            place,
-        },
-    }
-}
-
-fn same(answer: Answer, number: usize, place: usize) -> bool {
-    if answer.number == number {
-        answer.place == place
-    } else {
-        false
+// The number and the place of a fault; zeros where there is none.
+fn told(fault: Option<Fault>) -> (u8, usize) {
+    match fault {
+        Some(fault) => (fault.refusal.number(), fault.place),
+        None => (0, 0),
     }
 }
 
 // Both functions give the number and the place; the checker knows nothing of 15.
-fn judge(s: &[u8], store: &mut [u32], number: usize, place: usize) -> Verdict {
-    if !same(compiled(s, store), number, place) {
-        return Verdict::Differs;
-    }
+fn judge(s: &[u8], store: &mut [u32], number: u8, place: usize) -> Verdict {
     let plain = if number == 15 { 0 } else { number };
-    if same(checked(s), plain, place) {
+    if told(compile(s, store).err()) == (number, place)
+        && told(check_sheet(s).err()) == (plain, place)
+    {
         Verdict::Agrees
     } else {
         Verdict::Differs
@@ -104,22 +62,14 @@ fn replay<R: Read>(reader: &mut R, sheet: &mut [u8], store: &mut [u32]) -> Resul
     }
     let n = u32_at(&head, 0);
     let places = u16_at(&head, 4);
-    if 65536 < n {
-        return Ok(Verdict::Broken);
-    }
-    if 1024 < places {
+    if 65536 < n || 1024 < places {
         return Ok(Verdict::Broken);
     }
     if read_between(reader, sheet, 0, n)? < n {
         return Ok(Verdict::Broken);
     }
     let end = places * 8;
-    Ok(judge(
-        &sheet[0..n],
-        &mut store[0..end],
-        at8(&head, 6),
-        u32_at(&head, 7),
-    ))
+    Ok(judge(&sheet[0..n], &mut store[0..end], head[6], u32_at(&head, 7)))
 }
 
 fn say<W: Write>(to: &mut W, word: &[u8], n: u64, rest: &[u8]) -> Result<()> {
@@ -136,22 +86,21 @@ fn replay_all<R: Read, W: Write>(
 ) -> Result<()>
     requires { (length sheet.old ≡ 65536) × (length store.old ≡ 8192) }
 {
-    let mut n: u64 = 0;
-    while n < 1000000000 {
+    for n in 0..1_000_000_000u64 {
         match replay(reader, sheet, store)? {
             Verdict::Agrees => {}
             Verdict::Differs => return say(to, b"case ", n, b" differs\n"),
             Verdict::NoMore => return say(to, b"", n, b" agree\n"),
             Verdict::Broken => return say(to, b"case ", n, b" cannot be read\n"),
         }
-        n += 1;
     }
     Ok(())
 }
 
 fn replay_file(rt: &(impl Files + Print)) -> Result<()> {
-    let mut sheet = bytes();
-    let mut store = rows();
+    // The longest sheet, and 1,024 instructions.
+    let mut sheet: [u8; 65536] = filled(0);
+    let mut store: [u32; 8192] = filled(0);
     let mut file = fs::open(rt, "cases")?;
     replay_all(&mut file, &mut writer(rt), &mut sheet, &mut store)
 }

@@ -2,7 +2,7 @@
 use Rattle.std.specs.Prelude.{cond, ℕ, get_or}
 use Rattle.accepting.specs.declared.Answer.{Answer}
 use Rattle.accepting.specs.declared.Reply.{Reply}
-use Rattle.making.specs.declared.Made.{Made}
+use Rattle.making.specs.Making.{Made}
 use Rattle.ends.specs.declared.Popped.{Popped}
 use Rattle.ends.specs.declared.Top.{Top}
 use Rattle.ends.specs.declared.TopReply.{TopReply}
@@ -17,7 +17,7 @@ refused_told number place = told 0 number place 0 0
 
 -- Made: kind 1.
 unfoldable pub made_told : Made → Told
-made_told Made.Made = told 1 0 0 0 0
+made_told Made.Ready = told 1 0 0 0 0
 made_told (Made.Sheet number place) = refused_told number place
 made_told (Made.Refused number) = refused_told number 0
 

@@ -2,11 +2,12 @@
 #![tactic(auto)]
 
 ghost use Rattle.std.specs.Prelude.{◌≡◌};
+ghost use Rattle.making.specs.Making.{made_of};
 ghost use Rattle.told.specs.Told.{made_told, answer_told, reply_told, popped_told, top_told, top_reply_told};
 
 use accepting::{Answer, Reply};
 use ends::{Popped, Top, TopReply};
-use making::Made;
+use making::Unmade;
 
 /// What a call is answered. `kind` 0: refused, `refusal` is 01's number and `value` the place of a sheet's fault; 1: made; 2: match, `value` is the content flag; 3: waits for attributes; 4: `value` elements were popped; 5: ids of the top open element; 6: nothing is open. Id i is bit i of `low`, or bit i - 64 of `high`.
 #[repr(C)]
@@ -19,27 +20,28 @@ pub struct Told {
     pub high: u64,
 }
 
-pub fn tell_made(made: Made) -> Told
-    ensures { result ≡ made_told made }
+#[tactic(auto, unfolding(crate::specs::Told::made_told))]
+pub fn tell_made(made: Result<(), Unmade>) -> Told
+    ensures { result ≡ made_told (made_of made) }
 {
     match made {
-        Made::Made => Told {
+        Ok(()) => Told {
             kind: 1,
             refusal: 0,
             value: 0,
             low: 0,
             high: 0,
         },
-        Made::Sheet(number, place) => Told {
+        Err(Unmade::Sheet(fault)) => Told {
             kind: 0,
-            refusal: number as u32,
-            value: place as u64,
+            refusal: u32::from(fault.refusal.number()),
+            value: fault.place as u64,
             low: 0,
             high: 0,
         },
-        Made::Refused(number) => Told {
+        Err(Unmade::Refused(refusal)) => Told {
             kind: 0,
-            refusal: number,
+            refusal: refusal.number(),
             value: 0,
             low: 0,
             high: 0,

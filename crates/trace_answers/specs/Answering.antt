@@ -7,8 +7,7 @@ use Rattle.sheet.specs.Parser.{Parsed, parse_sheet}
 use Rattle.compiler.specs.Compiler.{places}
 use Rattle.stack.specs.Stores.{Stores}
 use Rattle.shapes.specs.Shapes.{sized}
-use Rattle.making.specs.declared.Made.{Made}
-use Rattle.making.specs.Making.{fresh_call}
+use Rattle.making.specs.Making.{Made, fresh_call}
 use Rattle.meaning.specs.Document as document
 use Rattle.meaning.specs.Trees.{Forest, size}
 use Rattle.meaning.specs.Elements.{Where, Tag, Given}
@@ -55,7 +54,7 @@ abbrev pub Answered : (sheet : List ℕ) → Forest NodeRecord → (esi : Bool) 
 Answered sheet forest esi program s ghost trace text =
     let m = fresh_call sheet esi program s in
     let h = calls_of trace in
-    (m.made ≡ Made.Made)
+    (m.made ≡ Made.Ready)
     × Goes lent_tests forest (sheet_program forest) refusing ghost (idle document.start) (map (call_of esi) h.calls) (answers sheet m.program (made_in s m) h.calls)
     × (text ≡ text_of (answer_lines sheet m.program (made_in s m) h))
 

@@ -1,27 +1,26 @@
-use Rattle.std.proofs.Common.{sym, ◌∙◌, arith}
-use Rattle.sheet.proofs.WalkLaws.{trees-none, trees-refused, trees-more, too-deep, too_many, bad-record, bad-children, then-descendants}
+use Rattle.std.proofs.Common.{sym, ap, ◌∙◌, arith}
+use Rattle.refusals.specs.Numbers.{judged}
+use Rattle.refusals.proofs.Passing.{passed_on}
+use Rattle.sheet.proofs.WalkLaws.{trees-none, trees-refused, trees-more, bad-record, bad-children, then-descendants}
 use Rattle.sheet.proofs.+check_tree_check_trees.Goals as goal
 
-pub check_tree-returns-then-depth-eq0 : goal.check_tree-returns-then-depth-eq0
-check_tree-returns-then-depth-eq0 t c = too-deep _ _ _ _ _ c.if-depth-eq0.true
+pub check_tree-returns-in_err-links : goal.check_tree-returns-in_err-links
+check_tree-returns-in_err-links t c =
+    passed_on c.from_residual.result c.in_err-links.field-0.0 c.from_residual.ensures.1 ∙ bad-record _ _ _ _ _ (omega arith) (omega arith) _ _ (ap judged (sym c.in_err-links.was) ∙ c.check_record.ensures)
 
-pub check_tree-returns-then-total-used : goal.check_tree-returns-then-total-used
-check_tree-returns-then-total-used t c = too_many _ _ _ _ _ (omega arith) (omega arith)
+pub check_tree-returns-in_err-middle : goal.check_tree-returns-in_err-middle
+check_tree-returns-in_err-middle t c =
+    passed_on c.from_residual-in_err-middle.result c.in_err-middle.field-0.0 c.from_residual-in_err-middle.ensures.1 ∙ bad-children _ _ _ _ _ (omega arith) (omega arith) (ap judged (sym c.in_ok-links.was) ∙ c.check_record.ensures) _ _ (ap judged (sym c.in_err-middle.was) ∙ c.check_trees.ensures)
 
-pub check_tree-returns-in-Refused : goal.check_tree-returns-in-Refused
-check_tree-returns-in-Refused t c = bad-record _ _ _ _ _ (omega arith) (omega arith) _ _ (sym c.in-Refused.is ∙ c.check_record.ensures)
+pub check_tree-returns : goal.check_tree-returns
+check_tree-returns t c = c.check_trees-2.ensures ∙ then-descendants _ _ _ _ _ (omega arith) (omega arith) (ap judged (sym c.in_ok-links.was) ∙ c.check_record.ensures) (ap judged (sym c.in_ok-middle.was) ∙ c.check_trees.ensures)
 
-pub check_tree-returns-in-Refused-check_trees : goal.check_tree-returns-in-Refused-check_trees
-check_tree-returns-in-Refused-check_trees t c = bad-children _ _ _ _ _ (omega arith) (omega arith) (sym c.in-Read.is ∙ c.check_record.ensures) _ _ (sym c.in-Refused-check_trees.is ∙ c.check_trees.ensures)
+pub check_trees-returns-in_err-here : goal.check_trees-returns-in_err-here
+check_trees-returns-in_err-here t c =
+    passed_on c.from_residual.result c.in_err-here.field-0.0 c.from_residual.ensures.1 ∙ (trees-refused _ _ _ _ _ _ (omega arith) _ _ (ap judged (sym c.in_err-here.was) ∙ c.check_tree.ensures) ∙ sym c.loop.invariant)
 
-pub check_tree-returns-in-On : goal.check_tree-returns-in-On
-check_tree-returns-in-On t c = c.check_trees-in-On.ensures ∙ then-descendants _ _ _ _ _ (omega arith) (omega arith) (sym c.in-Read.is ∙ c.check_record.ensures) (sym c.in-On.is ∙ c.check_trees.ensures)
-
-pub check_trees-returns-in-Refused : goal.check_trees-returns-in-Refused
-check_trees-returns-in-Refused t c = trees-refused _ _ _ _ _ _ (omega arith) _ _ (sym c.in-Refused.is ∙ c.check_tree.ensures) ∙ sym c.loop-left.invariant
-
-pub check_trees-loop-left-preserved : goal.check_trees-loop-left-preserved
-check_trees-loop-left-preserved t c = c.loop-left.invariant ∙ trees-more _ _ _ _ _ _ (omega arith) _ _ (sym c.in-On.is ∙ c.check_tree.ensures)
+pub check_trees-loop-preserved : goal.check_trees-loop-preserved
+check_trees-loop-preserved t c = c.loop.invariant ∙ trees-more _ _ _ _ _ _ _ (omega arith) _ _ (ap judged (sym c.in_ok-here.was) ∙ c.check_tree.ensures)
 
 pub check_trees-returns : goal.check_trees-returns
-check_trees-returns t c = sym (c.loop-left.invariant ∙ trees-none _ _ _ _ _ _ (omega arith))
+check_trees-returns t c = sym (c.loop.invariant ∙ trees-none _ _ _ _ _ _ (omega arith))

@@ -1,4 +1,4 @@
-use Rattle.std.proofs.Common.{◌≡◌, ◌+◌, ◌*◌}
+use Rattle.std.proofs.Common.{◌≡◌, ◌+◌, ◌-◌, ◌*◌}
 use Rattle.meaning.specs.Trees.{size}
 use Rattle.sheet.specs.Parser.{walk_of, parse_trees}
 use Rattle.sheet.proofs.+check_tree_check_trees.Given as goal
@@ -9,8 +9,5 @@ decreases-check_tree l = 2 * l.depth
 abbrev pub decreases-check_trees : goal.decreases-check_trees
 decreases-check_trees l = 2 * l.depth + 1
 
-abbrev pub invariant-check_trees-loop-left : goal.invariant-check_trees-loop-left
-invariant-check_trees-loop-left l = walk_of size l.used (parse_trees l.depth l.s l.total l.count l.at l.used) ≡ walk_of size l.seen (parse_trees l.depth l.s l.total l.left l.here l.seen)
-
-abbrev pub decreases-check_trees-loop-left : goal.decreases-check_trees-loop-left
-decreases-check_trees-loop-left l = l.left
+abbrev pub invariant-check_trees-loop : goal.invariant-check_trees-loop
+invariant-check_trees-loop l = walk_of size l.fn.start.used (parse_trees l.depth l.s l.total l.count l.fn.start.next l.fn.start.used) ≡ walk_of size l.here.used (parse_trees l.depth l.s l.total (l.count - l.counter) l.here.next l.here.used)
