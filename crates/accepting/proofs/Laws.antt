@@ -13,8 +13,7 @@ use Rattle.shapes.specs.Shapes.{types_counted}
 use Rattle.weighing.specs.Weighing.{push_refusal}
 use Rattle.weighing.specs.Passing.{push-passed}
 use Rattle.weighing.specs.Words.{no_ids}
-use Rattle.accepting.specs.declared.Answer.{Answer}
-use Rattle.accepting.specs.Accepting.{outcome, reply, accepted}
+use Rattle.accepting.specs.Accepting.{Answer, outcome, reply, accepted}
 
 -- ---- header words that writes leave as they are
 

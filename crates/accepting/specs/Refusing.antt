@@ -3,9 +3,7 @@ use Rattle.std.specs.Prelude.{◌≡◌, ℕ}
 use Rattle.std.proofs.Common.{◌∙◌}
 use Rattle.stack.specs.Stores.{Stores}
 use Rattle.weighing.specs.Words.{no_ids}
-use Rattle.accepting.specs.declared.Answer.{Answer}
-use Rattle.accepting.specs.declared.Reply.{Reply}
-use Rattle.accepting.specs.Accepting.{outcome, reply, refusing}
+use Rattle.accepting.specs.Accepting.{Answer, Reply, outcome, reply, refusing}
 
 pub refusing-is : (s : Stores) (answer : Reply) (n number : ℕ) → n ≡ number → answer ≡ reply (Answer.Refused n) no_ids → outcome answer s ≡ refusing number s
 refusing-is s answer n number e q = (λ i. outcome (q i) s) ∙ (λ i. refusing (e i) s)

@@ -3,10 +3,10 @@
 
 ghost use Rattle.std.specs.Prelude.{◌≡◌, ◌+◌, ◌*◌, ◌≤◌, ◌<◌, length};
 
-use ends::{Popped, Top, TopReply};
 use lines::{put_refused, put_sheet_refused};
 use making::Unmade;
 use match_lines::put_ids;
+use refusals::Refusal;
 use text::put_text;
 
 pub fn least(a: usize, b: usize) -> usize
@@ -32,8 +32,8 @@ pub fn put_made(out: &mut [u8], at: usize, made: Result<(), Unmade>) -> usize
 }
 
 // The ids of a set, on a line.
-fn put_set(out: &mut [u8], at: usize, words: &[u64]) -> usize
-    requires { (at ≤ 4294967296) × (length words.now ≤ 2) }
+fn put_set(out: &mut [u8], at: usize, words: &[u64; 2]) -> usize
+    requires { at ≤ 4294967296 }
     ensures { result ≤ at + 4096 }
 {
     let mut next = put_text(out, at, b"ids");
@@ -42,37 +42,31 @@ fn put_set(out: &mut [u8], at: usize, words: &[u64]) -> usize
 }
 
 // The ids of each popped element, a line each, as long as there is room for lines.
-pub fn put_sets(out: &mut [u8], at: usize, popped: &[u64], answer: Popped) -> usize
+pub fn put_sets(out: &mut [u8], at: usize, popped: &[u64], answer: Result<usize, Refusal>) -> usize
     requires { at ≤ 139264 }
     ensures { result ≤ 143360 }
 {
-    let Popped::Elements(n) = answer else {
+    let Ok(n) = answer else {
         return at;
     };
-    let count = least(n, popped.len() / 2);
+    let (sets, _) = popped.as_chunks::<2>();
     let mut next = at;
-    let mut i = 0;
-    while i < count {
+    for words in &sets[..least(n, sets.len())] {
         if 131072 < next {
             return next;
         }
-        let from = i * 2;
-        let to = i * 2 + 2;
-        next = put_set(out, next, &popped[from..to]);
-        i += 1;
+        next = put_set(out, next, words);
     }
     next
 }
 
-pub fn put_top(out: &mut [u8], at: usize, reply: TopReply) -> usize
+pub fn put_top(out: &mut [u8], at: usize, top: Result<Option<[u64; 2]>, Refusal>) -> usize
     requires { at ≤ 131072 }
     ensures { result ≤ 143360 }
 {
-    let top = reply.top;
-    let words = reply.ids;
     match top {
-        Top::Ids => put_set(out, at, &words),
-        Top::NothingOpen => put_text(out, at, b"nothing open\n"),
-        Top::Refused(number) => put_refused(out, at, number),
+        Ok(Some(words)) => put_set(out, at, &words),
+        Ok(None) => put_text(out, at, b"nothing open\n"),
+        Err(refusal) => put_refused(out, at, refusal.number()),
     }
 }

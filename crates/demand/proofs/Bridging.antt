@@ -25,14 +25,12 @@ use Rattle.weighing.specs.Weighing.{is_bad_name, tag_refusal, pairs_full, push_r
 use Rattle.course.specs.Course as course
 use Rattle.tags.specs.Tags as tags
 use Rattle.ends.specs.Ends as ends
-use Rattle.ends.specs.declared.Popped.{Popped}
-use Rattle.ends.specs.declared.Top.{Top}
 use Rattle.weighing.specs.Words.{cell, no_ids}
 use Rattle.accepting.specs.Accepting as accepting
 use Rattle.accepting.specs.Accepting.{Outcome, accepted}
 use Rattle.tags.specs.Tags.{whole, lowered, given}
 use Rattle.making.specs.Making.{flags_of}
-use Rattle.ends.specs.Ends.{Ended, top_reply, popping, end_call, id_set_call}
+use Rattle.ends.specs.Ends.{Popped, Top, Ended, top_reply, popping, end_call, id_set_call}
 use Rattle.starts.specs.Starts.{start_call}
 use Rattle.resumes.specs.Resumes.{attributes_call}
 use Rattle.course.specs.Course.{live_ranges, kind_of, is_html, has_content, held_cursor}

@@ -5,13 +5,10 @@ use Rattle.std.proofs.Math.Dec.{T}
 use Rattle.stack.specs.Stores.{Stores, opens, ids_of_top}
 use Rattle.shapes.specs.Shapes.{state_refusal}
 use Rattle.weighing.specs.Words.{no_ids}
-use Rattle.accepting.specs.declared.Answer as accepting
+use Rattle.accepting.specs.Accepting as accepting
 use Rattle.accepting.specs.Accepting.{Outcome}
 use Rattle.making.specs.Making.{Made, fresh_call}
-use Rattle.ends.specs.declared.Popped.{Popped}
-use Rattle.ends.specs.declared.Top.{Top}
-use Rattle.ends.specs.declared.TopReply.{TopReply}
-use Rattle.ends.specs.Ends.{end_call, top_reply, id_set_call}
+use Rattle.ends.specs.Ends.{Popped, Top, TopReply, end_call, top_reply, id_set_call}
 use Rattle.starts.specs.Starts.{start_call}
 use Rattle.resumes.specs.Resumes.{attributes_call}
 use Rattle.told.specs.Told.{made_told, answer_told, reply_told, popped_told, top_told, top_reply_told}

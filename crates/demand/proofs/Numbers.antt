@@ -10,12 +10,10 @@ use Rattle.shapes.specs.Shapes.{esi_on, state_refusal}
 use Rattle.weighing.specs.Weighing.{tag_refusal, pairs_full, push_refusal, attributes_refusal, end_refusal}
 use Rattle.weighing.specs.Words.{no_ids}
 use Rattle.course.specs.Course.{kind_of, has_content, begin, resumed}
-use Rattle.accepting.specs.declared.Answer as accepting
+use Rattle.accepting.specs.Accepting as accepting
 use Rattle.accepting.specs.Accepting.{Outcome, refusing, accepted}
 use Rattle.tags.specs.Tags.{whole, begun, lowered, given}
-use Rattle.ends.specs.declared.Popped.{Popped}
-use Rattle.ends.specs.declared.Top.{Top}
-use Rattle.ends.specs.Ends.{Ended, ended, popping, end_call, top_reply, id_set_call}
+use Rattle.ends.specs.Ends.{Popped, Top, Ended, ended, popping, end_call, top_reply, id_set_call}
 use Rattle.starts.specs.Starts.{start_call}
 use Rattle.resumes.specs.Resumes.{attributes_call}
 use Rattle.meaning.specs.Lists.{◌∈◌, has}

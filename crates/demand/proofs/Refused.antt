@@ -13,13 +13,11 @@ use Rattle.exec.specs.Scans.{Sought, over, stopped}
 use Rattle.shapes.specs.Shapes.{esi_on, sized, state_refusal}
 use Rattle.weighing.specs.Weighing.{tag_refusal, pairs_full, push_refusal, attributes_refusal, end_refusal}
 use Rattle.course.specs.Course.{kind_of, has_content, begin, resumed}
-use Rattle.accepting.specs.declared.Answer.{Answer}
 use Rattle.weighing.specs.Words.{no_ids}
-use Rattle.accepting.specs.Accepting.{Outcome, outcome, reply, refusing, accepted}
+use Rattle.accepting.specs.Accepting.{Answer, Outcome, outcome, reply, refusing, accepted}
 use Rattle.tags.specs.Tags.{whole, begun, lowered, given}
-use Rattle.ends.specs.declared.Popped.{Popped}
 use Rattle.making.specs.Making.{Made, Fresh, fresh_of, fresh_call}
-use Rattle.ends.specs.Ends.{Ended, ended, popping, end_call}
+use Rattle.ends.specs.Ends.{Popped, Ended, ended, popping, end_call}
 use Rattle.starts.specs.Starts.{start_call}
 use Rattle.resumes.specs.Resumes.{attributes_call}
 

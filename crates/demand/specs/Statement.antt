@@ -9,12 +9,10 @@ use Rattle.sheet.specs.Parser.{Parsed, parse_sheet}
 use Rattle.compiler.specs.Compiler.{places}
 use Rattle.stack.specs.Stores.{Stores, stores, id_words}
 use Rattle.shapes.specs.Shapes.{sized}
-use Rattle.accepting.specs.declared.Answer as accepting
-use Rattle.ends.specs.declared.Popped.{Popped}
-use Rattle.ends.specs.declared.Top.{Top}
+use Rattle.accepting.specs.Accepting as accepting
 use Rattle.accepting.specs.Accepting.{Outcome}
 use Rattle.making.specs.Making.{Made, Fresh, fresh_call}
-use Rattle.ends.specs.Ends.{Ended, end_call, id_set_call}
+use Rattle.ends.specs.Ends.{Popped, Top, Ended, end_call, id_set_call}
 use Rattle.starts.specs.Starts.{start_call}
 use Rattle.resumes.specs.Resumes.{attributes_call}
 use Rattle.meaning.specs.Lists.{◌∈◌}

@@ -1,10 +1,11 @@
 -- End tag and id set asked: each way out.
-use mathlib.Core.Path.{◌≡◌, sym, ap, ◌∙◌}
-use mathlib.Core.Bool.{Bool, true, false}
+use mathlib.Core.Path.{◌≡◌, refl, sym, ap, ◌∙◌}
+use mathlib.Core.Bool.{Bool, true, false, cond}
 use mathlib.Core.List.{List, map}
 use Prim.Native.Nat.{ℕ, ◌-◌, ◌*◌, ◌/◌, ◌<◌, ◌≤◌}
+use Rattle.std.specs.Prelude.{Option, None, Some, Ok}
 use native.Mathlib.Omega.{arith}
-use borrow.Author.Tests.{lt-ltb, le-ltb, ltb-true, ltb-false, eq-eqb, ne_eqb}
+use borrow.Author.Tests.{lt-ltb, le-ltb}
 use lib.Dec.{eqb, ltb}
 use lib.ListN.{length, take, drop, length-map}
 use Rattle.cells.specs.Stretches.{written}
@@ -14,9 +15,7 @@ use Rattle.shapes.specs.Shapes.{state_refusal}
 use Rattle.weighing.specs.Weighing.{end_refusal}
 use Rattle.weighing.specs.Passing.{passed, stopped_by}
 use Rattle.weighing.specs.Words.{no_ids, front}
-use Rattle.ends.specs.declared.Popped.{Popped}
-use Rattle.ends.specs.declared.Top.{Top}
-use Rattle.ends.specs.Ends.{Ended, ended, popping, end_call, top_reply, id_set_call}
+use Rattle.ends.specs.Ends.{Popped, Top, Ended, ended, popping, end_call, top_reply, top_of, id_set_call}
 
 -- ---- end tag
 
@@ -53,15 +52,10 @@ module _ (sheet program : List ℕ) (s : Stores) (state : ℕ) (e : state ≡ st
   unfolding id_set_call
   asked-state h = rw (stopped_by state _ e h) (λ i. top_reply (Top.Refused (e i)) no_ids)
 
-  module _ (z : state ≡ 0) (some : Bool) (words : List ℕ) (p : (some ≡ ltb 0 (opens s.rows)) × (words ≡ ids_of_top s.rows s.ids no_ids)) where
-    pub asked_top : some ≡ true → top_reply Top.Ids words ≡ id_set_call sheet program s
-    unfolding id_set_call
-    asked_top h = rw (passed state _ e z, ne_eqb (opens s.rows) 0 (λ q. let k = ltb-true 0 (opens s.rows) (sym p.0 ∙ h) in omega (arith, q, k))) (λ i. top_reply Top.Ids (p.1 i))
-
-    pub asked_none : some ≡ false → top_reply Top.NothingOpen words ≡ id_set_call sheet program s
-    unfolding id_set_call ids_of_top
-    asked_none h =
-        let k = ltb-false 0 (opens s.rows) (sym p.0 ∙ h) in
-        let q : eqb (opens s.rows) 0 ≡ true = eq-eqb (opens s.rows) 0 (omega (arith, k)) in
-        let w : ids_of_top s.rows s.ids no_ids ≡ no_ids = rw q in
-        rw (passed state _ e z, q) (λ i. top_reply Top.NothingOpen ((p.1 ∙ w) i))
+  pub asked : (z : state ≡ 0) (r : Option (List ℕ)) → r ≡ cond (eqb (opens s.rows) 0) None (Some (ids_of_top s.rows s.ids no_ids)) → top_of (Ok r) ≡ id_set_call sheet program s
+  unfolding id_set_call
+  asked z r q = rw (passed state _ e z, q) (go (eqb (opens s.rows) 0))
+    where
+      go : (b : Bool) → top_of (Ok (cond b None (Some (ids_of_top s.rows s.ids no_ids)))) ≡ cond b (top_reply Top.NothingOpen no_ids) (top_reply Top.Ids (ids_of_top s.rows s.ids no_ids))
+      go true = refl
+      go false = refl

@@ -31,16 +31,6 @@ module _ (rows ids out out' : List ℕ) (n d : ℕ) (ed : d ≡ opens rows) (eo 
   unfolding popped_rows popped_ids back_to cells_from
   pop-some h t1 t2 t3 r' e1 e2 e3 er = (er ∙ sym (rw (ne_eqb _ _ h, ← ed, ← e1, ← e2, ← e3)), eo ∙ rw ed)
 
--- ---- the top
-module _ (rows ids out : List ℕ) (d : ℕ) (ed : d ≡ opens rows) where
-  pub top-none : d ≡ 0 → (false ≡ ltb 0 (opens rows)) × (out ≡ ids_of_top rows ids out)
-  unfolding ids_of_top
-  top-none h = let z : ltb 0 d ≡ false = le-ltb 0 d (omega arith) in rw (← ed) (sym z, sym (rw (eq-eqb _ _ h)))
-
-  pub top-some : (d ≡ 0 → ⊥) → (out' : List ℕ) → out' ≡ written out 0 (cells_from ids (ids_at d) id_words) → (true ≡ ltb 0 (opens rows)) × (out' ≡ ids_of_top rows ids out)
-  unfolding ids_of_top
-  top-some h out' e = let z : ltb 0 d ≡ true = lt-ltb 0 d (omega arith) in rw (← ed) (sym z, e ∙ sym (rw (ne_eqb _ _ h)))
-
 -- ---- looking for an open element
 near-here : (rows names x : List ℕ) (k j : ℕ) → k ≡ suc j → holds_name names (name_at k) (get_or rows (row_at k) 0) x ≡ true → nearest rows names x k ≡ k
 unfolding nearest

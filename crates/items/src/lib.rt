@@ -1,7 +1,7 @@
 //! The open elements (StackItem): the nearest with a name, the pop, and the ids of the top; the push is in `pushes`.
 #![tactic(auto)]
 
-ghost use Rattle.std.specs.Prelude.{◌≡◌, ◌<◌, ◌≤◌, ◌^◌, ltb};
+ghost use Rattle.std.specs.Prelude.{◌≡◌, ◌<◌, ◌≤◌, ◌^◌, [], ◌∷◌, None, Some, cond, eqb};
 ghost use Rattle.cells.specs.Stretches.{cells_from, written};
 ghost use Rattle.stack.specs.Stores.{open_limit, parent_limit, ancestor_limit, found_limit, name_limit, id_words, stores, opens, parents_top, ancestors_top, child_block, bears, bearers, listed, new_ancestors, with_row, pushed, nearest, popped_count, popped_rows, popped_ids, ids_of_top};
 
@@ -58,14 +58,16 @@ pub fn pop_items(rows: &mut [u32], ids: &[u64], n: usize, out: &mut [u64])
     copy32(&header, 0, 4, rows, 0);
 }
 
-// The ids of the top open element; the answer is whether there is one.
-pub fn top_ids(rows: &[u32], ids: &[u64], out: &mut [u64]) -> bool
-    ensures { (result ≡ ltb 0 (opens rows.now)) × (out.new ≡ ids_of_top rows.now ids.now out.old) }
+// The ids of the top open element, if there is one.
+#[tactic(auto, unfolding(stack::specs::Stores::ids_of_top))]
+pub fn top_ids(rows: &[u32], ids: &[u64]) -> Option<[u64; 2]>
+    ensures { result ≡ cond (eqb (opens rows.now) 0) None (Some (ids_of_top rows.now ids.now (0 ∷ 0 ∷ []))) }
 {
     let k = at32(rows, OPENS);
     if k == 0 {
-        return false;
+        return None;
     }
-    copy64(ids, k * ID_WORDS, ID_WORDS, out, 0);
-    true
+    let mut words = [0, 0];
+    copy64(ids, k * ID_WORDS, ID_WORDS, &mut words, 0);
+    Some(words)
 }

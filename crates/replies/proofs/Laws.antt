@@ -3,10 +3,8 @@ use mathlib.Core.List.{List}
 use mathlib.Core.Path.{◌≡◌}
 use Prim.Native.Nat.{ℕ}
 use Rattle.text.specs.Text.{Wrote}
-use Rattle.accepting.specs.Accepting.{Outcome, outcome}
-use Rattle.ends.specs.Ends.{ended, end_call}
-use Rattle.ends.specs.declared.Popped.{Popped}
-use Rattle.accepting.specs.declared.Reply.{Reply}
+use Rattle.accepting.specs.Accepting.{Outcome, outcome, Reply}
+use Rattle.ends.specs.Ends.{ended, end_call, Popped}
 use Rattle.stack.specs.Stores.{Stores, stores}
 use Rattle.reply_lines.specs.ReplyLines.{reply_line, popped_line}
 use Rattle.replies.specs.Replies.{spoken, end_turn, popped_room, answered, saying}

@@ -2,9 +2,8 @@
 use Rattle.std.specs.Prelude.{List, ℕ}
 use Rattle.match_lines.specs.MatchLines.{match_line}
 use Rattle.lines.specs.Lines.{attrs_line, pop_line, refused_line}
-use Rattle.accepting.specs.declared.Answer.{Answer}
-use Rattle.ends.specs.declared.Popped.{Popped}
-use Rattle.accepting.specs.declared.Reply.{Reply}
+use Rattle.accepting.specs.Accepting.{Answer, Reply}
+use Rattle.ends.specs.Ends.{Popped}
 
 -- The line of an answer to a start tag or to attributes.
 unfoldable pub answer_line : Answer → (ids : List ℕ) → List ℕ

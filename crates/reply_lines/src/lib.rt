@@ -3,34 +3,36 @@
 
 ghost use Rattle.std.specs.Prelude.{◌+◌, ◌≤◌};
 ghost use Rattle.text.specs.Text.{Wrote};
+ghost use Rattle.accepting.specs.Accepting.{reply_of};
+ghost use Rattle.ends.specs.Ends.{popped_of};
 ghost use Rattle.reply_lines.specs.ReplyLines.{reply_line, popped_line};
 
-use accepting::{Answer, Reply};
-use ends::Popped;
+use accepting::Answer;
 use lines::{put_attrs, put_pop, put_refused};
 use match_lines::put_match;
+use refusals::Refusal;
 
-pub fn put_reply(out: &mut [u8], at: usize, reply: Reply) -> usize
+#[tactic(auto, unfolding(crate::specs::ReplyLines::answer_line))]
+pub fn put_reply(out: &mut [u8], at: usize, reply: Result<Answer, Refusal>) -> usize
     requires { at ≤ 4294967296 }
-    ensures wrote { Wrote out.old at (reply_line reply) result out.new }
+    ensures wrote { Wrote out.old at (reply_line (reply_of reply)) result out.new }
     ensures upper_bound { result ≤ at + 4096 }
 {
-    let answer = reply.answer;
-    let ids = reply.ids;
-    match answer {
-        Answer::Match(content) => put_match(out, at, &ids, content),
-        Answer::Attributes => put_attrs(out, at),
-        Answer::Refused(n) => put_refused(out, at, n),
+    match reply {
+        Ok(Answer::Match { ids, content }) => put_match(out, at, &ids, content),
+        Ok(Answer::Attributes) => put_attrs(out, at),
+        Err(refusal) => put_refused(out, at, refusal.number()),
     }
 }
 
-pub fn put_popped(out: &mut [u8], at: usize, popped: Popped) -> usize
+#[tactic(auto, unfolding(crate::specs::ReplyLines::popped_line))]
+pub fn put_popped(out: &mut [u8], at: usize, popped: Result<usize, Refusal>) -> usize
     requires { at ≤ 4294967296 }
-    ensures wrote { Wrote out.old at (popped_line popped) result out.new }
+    ensures wrote { Wrote out.old at (popped_line (popped_of popped)) result out.new }
     ensures upper_bound { result ≤ at + 4096 }
 {
     match popped {
-        Popped::Elements(n) => put_pop(out, at, n),
-        Popped::Refused(n) => put_refused(out, at, n),
+        Ok(count) => put_pop(out, at, count),
+        Err(refused) => put_refused(out, at, refused.number()),
     }
 }

@@ -11,9 +11,7 @@ use Rattle.weighing.specs.Weighing.{attributes_refusal}
 use Rattle.weighing.specs.Passing.{passed, stopped_by}
 use Rattle.weighing.specs.Words.{no_ids, front}
 use Rattle.course.specs.Course.{has_content, resumed}
-use Rattle.accepting.specs.declared.Answer.{Answer}
-use Rattle.accepting.specs.declared.Reply.{Reply}
-use Rattle.accepting.specs.Accepting.{Outcome, outcome, reply}
+use Rattle.accepting.specs.Accepting.{Answer, Reply, Outcome, outcome, reply}
 use Rattle.accepting.specs.Refusing.{refusing-is}
 use Rattle.tags.specs.Tags.{whole, given}
 use Rattle.resumes.specs.Resumes.{attributes_call}

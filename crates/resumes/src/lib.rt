@@ -1,20 +1,22 @@
-//! The call for the attributes of the tag that waits: its scan goes on (mod.rs). Any bytes are answered or refused by a number of 01; a refused call changes nothing.
+//! The call for the attributes of the tag that waits: its scan goes on (mod.rs). Any bytes are answered or refused; a refused call changes nothing.
 #![tactic(auto)]
 
-ghost use Rattle.std.specs.Prelude.{◌≡◌, ◌≤◌, length, get_or};
+ghost use Rattle.std.specs.Prelude.{◌≡◌, ◌≤◌, get_or};
 ghost use Rattle.sheet.specs.Parser.{node_count};
-ghost use Rattle.stack.specs.Stores.{stores, opens, parents_top, ancestors_top};
-ghost use Rattle.accepting.specs.Accepting.{outcome};
+ghost use Rattle.stack.specs.Stores.{stores};
+ghost use Rattle.accepting.specs.Accepting.{reply_of, Limited, outcome};
 ghost use Rattle.tags.specs.Tags.{given};
 ghost use Rattle.resumes.specs.Resumes.{attributes_call};
 
-use accepting::{Reply, refused};
+use accepting::Answer;
 use cells::get32;
 use course::{has_content, resume_scan};
-use shapes::state_refusal;
+use refusals::Refusal;
+use shapes::check_state;
+use stack::HELD_KIND;
 use tags::finish_held;
 use waiting::held_name;
-use weighing::attributes_refusal;
+use weighing::check_attributes;
 
 // The attributes of the waiting tag, whose name is at hand.
 fn attributes_named(
@@ -28,15 +30,17 @@ fn attributes_named(
     self_closing: bool,
     input: &[u8],
     outlines: &[u32],
-) -> Reply
-    requires { (opens rows.old ≤ 256) × (parents_top rows.old ≤ 4096) × (ancestors_top rows.old ≤ 1024) × (length name.now ≤ 63) × (get_or rows.old 7 0 ≤ node_count sheet.now) × (node_count sheet.now ≤ 1024) }
-    ensures { outcome result (stores rows.new names.new ids.new nodes.new) ≡ given sheet.now program.now (stores rows.old names.old ids.old nodes.old) name.now self_closing input.now outlines.now }
+) -> Result<Answer, Refusal>
+    requires limited { Limited rows.old name.now }
+    requires held_few { get_or rows.old 7 0 ≤ node_count sheet.now }
+    requires nodes_few { node_count sheet.now ≤ 1024 }
+    ensures { outcome (reply_of result) (stores rows.new names.new ids.new nodes.new) ≡ given sheet.now program.now (stores rows.old names.old ids.old nodes.old) name.now self_closing input.now outlines.now }
 {
     let mut found = [0; 1024];
     let n = resume_scan(
         sheet, program, rows, names, nodes, name, input, outlines, &mut found,
     );
-    let content = has_content(get32(rows, 6), self_closing);
+    let content = has_content(get32(rows, HELD_KIND), self_closing);
     finish_held(
         sheet,
         program,
@@ -61,17 +65,11 @@ pub fn attributes(
     self_closing: bool,
     input: &[u8],
     outlines: &[u32],
-) -> Reply
-    ensures { outcome result (stores rows.new names.new ids.new nodes.new) ≡ attributes_call sheet.now program.now (stores rows.old names.old ids.old nodes.old) self_closing input.now outlines.now }
+) -> Result<Answer, Refusal>
+    ensures { outcome (reply_of result) (stores rows.new names.new ids.new nodes.new) ≡ attributes_call sheet.now program.now (stores rows.old names.old ids.old nodes.old) self_closing input.now outlines.now }
 {
-    let state = state_refusal(sheet, program, rows, names, ids, nodes);
-    if state != 0 {
-        return refused(state);
-    }
-    let given = attributes_refusal(rows, input, outlines);
-    if given != 0 {
-        return refused(given);
-    }
+    check_state(sheet, program, rows, names, ids, nodes)?;
+    check_attributes(rows, input, outlines)?;
     let mut low = [0; 64];
     let n = held_name(rows, names, &mut low);
     attributes_named(

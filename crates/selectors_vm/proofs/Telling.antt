@@ -2,11 +2,9 @@
 use mathlib.Core.Path.{◌≡◌, ◌∙◌, ap}
 use mathlib.Core.List.{List}
 use Prim.Native.Nat.{ℕ}
-use Rattle.accepting.specs.Accepting.{Outcome, outcome}
+use Rattle.accepting.specs.Accepting.{Outcome, outcome, Reply}
 use Rattle.making.specs.Making.{Made, Fresh, fresh}
-use Rattle.ends.specs.Ends.{Ended, ended}
-use Rattle.accepting.specs.declared.Reply.{Reply}
-use Rattle.ends.specs.declared.Popped.{Popped}
+use Rattle.ends.specs.Ends.{Ended, ended, Popped}
 use Rattle.stack.specs.Stores.{Stores}
 use Rattle.told.specs.declared.Told.{Told}
 use Rattle.told.specs.Told.{made_told, reply_told, popped_told}

@@ -10,7 +10,7 @@ ghost use Rattle.stack.specs.Stores.{stores};
 ghost use Rattle.told.specs.Told.{made_told, reply_told, popped_told, top_reply_told};
 ghost use Rattle.selectors_vm.specs.Flags.{is_on};
 
-use told::{Told, tell_made, tell_popped, tell_reply, tell_top_reply};
+use told::{Told, tell_made};
 
 /// Makes a machine of a sheet, whatever its stores held.
 #[unsafe(no_mangle)]
@@ -42,7 +42,7 @@ pub extern "C" fn selectors_vm_start(
 ) -> Told
     ensures { (result ≡ reply_told (start_call sheet.now program.now (stores rows.old names.old ids.old nodes.old) namespace name.now).reply) × (stores rows.new names.new ids.new nodes.new ≡ (start_call sheet.now program.now (stores rows.old names.old ids.old nodes.old) namespace name.now).after) }
 {
-    tell_reply(starts::start(sheet, program, rows, names, ids, nodes, namespace, name))
+    starts::start(sheet, program, rows, names, ids, nodes, namespace, name).into()
 }
 
 /// The attributes of the tag that waits: its bytes, and outlines in fours (name start, name end, value start, value end).
@@ -60,7 +60,7 @@ pub extern "C" fn selectors_vm_attributes(
 ) -> Told
     ensures { (result ≡ reply_told (attributes_call sheet.now program.now (stores rows.old names.old ids.old nodes.old) (is_on self_closing) input.now outlines.now).reply) × (stores rows.new names.new ids.new nodes.new ≡ (attributes_call sheet.now program.now (stores rows.old names.old ids.old nodes.old) (is_on self_closing) input.now outlines.now).after) }
 {
-    tell_reply(resumes::attributes(
+    resumes::attributes(
         sheet,
         program,
         rows,
@@ -70,7 +70,8 @@ pub extern "C" fn selectors_vm_attributes(
         self_closing != 0,
         input,
         outlines,
-    ))
+    )
+    .into()
 }
 
 /// An end tag. Two id words for each popped element go to `popped`, in opening order.
@@ -87,7 +88,7 @@ pub extern "C" fn selectors_vm_end(
 ) -> Told
     ensures { (result ≡ popped_told (end_call sheet.now program.now (stores rows.old names.now ids.now nodes.now) name.now popped.old).answer) × (rows.new ≡ (end_call sheet.now program.now (stores rows.old names.now ids.now nodes.now) name.now popped.old).rows) × (popped.new ≡ (end_call sheet.now program.now (stores rows.old names.now ids.now nodes.now) name.now popped.old).out) }
 {
-    tell_popped(ends::end(sheet, program, rows, names, ids, nodes, name, popped))
+    ends::end(sheet, program, rows, names, ids, nodes, name, popped).into()
 }
 
 /// The id set of the top open element, never of the waiting tag.
@@ -102,5 +103,5 @@ pub extern "C" fn selectors_vm_id_set(
 ) -> Told
     ensures { result ≡ top_reply_told (id_set_call sheet.now program.now (stores rows.now names.now ids.now nodes.now)) }
 {
-    tell_top_reply(ends::id_set(sheet, program, rows, names, ids, nodes))
+    ends::id_set(sheet, program, rows, names, ids, nodes).into()
 }

@@ -2,104 +2,113 @@
 #![tactic(auto)]
 
 ghost use Rattle.std.specs.Prelude.{◌≡◌};
+ghost use Rattle.refusals.specs.Numbers.{number_of};
 ghost use Rattle.stack.specs.Stores.{stores};
 ghost use Rattle.shapes.specs.Shapes.{esi_on, types_counted, sized, header_shaped, shaped, state_refusal};
 
 use cells::numbers::u16_at;
 use cells::{at32, get32};
+use refusals::Refusal;
+use stack::{
+    ANCESTORS_TOP, FLAGS, HELD_FOUND, HELD_NAME, INSTRUCTION, MARK, OPENS, PAIRS_TOP, PARENTS_TOP,
+    SHEET, WAITS,
+};
+
+// The least sizes of the stores:
+pub const ROWS_SIZE: usize = 3096;
+
+pub const NAMES_SIZE: usize = 49216;
+
+pub const IDS_SIZE: usize = 514;
+
+pub const NODES_SIZE: usize = 6144;
+
+// The most that a machine keeps:
+pub const OPEN_LIMIT: usize = 256;
+
+pub const PARENT_LIMIT: usize = 4096;
+
+pub const ANCESTOR_LIMIT: usize = 1024;
+
+pub const PAIR_LIMIT: usize = 512;
+
+pub const NAME_LIMIT: usize = 63;
+
+pub const NODE_LIMIT: usize = 1024;
+
+// The mark of a store in which a machine was made, and the flags' highest value.
+pub const MADE_MARK: usize = 1383429737;
+
+pub const ALL_FLAGS: usize = 3;
 
 pub fn is_esi_on(rows: &[u32]) -> bool
     ensures { result ≡ esi_on rows.now }
 {
-    get32(rows, 14) % 2 == 1
+    get32(rows, FLAGS) % 2 == 1
 }
 
 pub fn counts_types(rows: &[u32]) -> bool
     ensures { result ≡ types_counted rows.now }
 {
-    get32(rows, 14) / 2 % 2 == 1
+    get32(rows, FLAGS) / 2 % 2 == 1
 }
 
 // 31: whether every store has at least its size.
+#[tactic(auto, unfolding(crate::specs::Shapes::sized))]
 pub fn is_sized(rows: &[u32], names: &[u8], ids: &[u64], nodes: &[u16]) -> bool
     ensures { result ≡ sized (stores rows.now names.now ids.now nodes.now) }
 {
-    if rows.len() < 3096 {
-        return false;
-    }
-    if names.len() < 49216 {
-        return false;
-    }
-    if ids.len() < 514 {
-        return false;
-    }
-    6144 <= nodes.len()
+    ROWS_SIZE <= rows.len()
+        && NAMES_SIZE <= names.len()
+        && IDS_SIZE <= ids.len()
+        && NODES_SIZE <= nodes.len()
 }
 
 // 30, the words of the header that a made machine keeps within limits.
+#[tactic(auto, unfolding(crate::specs::Shapes::header_shaped))]
 fn is_header_shaped(rows: &[u32], count: usize) -> bool
     ensures { result ≡ header_shaped rows.now count }
 {
-    if 256 < at32(rows, 0) {
-        return false;
-    }
-    if 4096 < at32(rows, 1) {
-        return false;
-    }
-    if 1024 < at32(rows, 2) {
-        return false;
-    }
-    if 512 < at32(rows, 3) {
-        return false;
-    }
-    if 1 < at32(rows, 4) {
-        return false;
-    }
-    if 63 < at32(rows, 5) {
-        return false;
-    }
-    if count < at32(rows, 7) {
-        return false;
-    }
-    at32(rows, 14) <= 3
+    at32(rows, OPENS) <= OPEN_LIMIT
+        && at32(rows, PARENTS_TOP) <= PARENT_LIMIT
+        && at32(rows, ANCESTORS_TOP) <= ANCESTOR_LIMIT
+        && at32(rows, PAIRS_TOP) <= PAIR_LIMIT
+        && at32(rows, WAITS) <= 1
+        && at32(rows, HELD_NAME) <= NAME_LIMIT
+        && at32(rows, HELD_FOUND) <= count
+        && at32(rows, FLAGS) <= ALL_FLAGS
 }
 
 // 30: whether the lent sheet, instructions and header keep the shape rules.
+#[tactic(auto, unfolding(crate::specs::Shapes::shaped))]
 pub fn is_shaped(sheet: &[u8], program: &[u32], rows: &[u32]) -> bool
     ensures { result ≡ shaped sheet.now program.now rows.now }
 {
-    if at32(rows, 12) != 1383429737 {
-        return false;
-    }
-    if at32(rows, 13) != sheet.len() {
-        return false;
-    }
     let count = u16_at(sheet, 5);
-    if 1024 < count {
-        return false;
-    }
-    if program.len() < count * 8 {
-        return false;
-    }
-    is_header_shaped(rows, count)
+    at32(rows, MARK) == MADE_MARK
+        && at32(rows, SHEET) == sheet.len()
+        && count <= NODE_LIMIT
+        && count * INSTRUCTION <= program.len()
+        && is_header_shaped(rows, count)
 }
 
 // 31, 30.
-pub fn state_refusal(
+#[tactic(auto, unfolding(crate::specs::Shapes::state_refusal))]
+pub fn check_state(
     sheet: &[u8],
     program: &[u32],
     rows: &[u32],
     names: &[u8],
     ids: &[u64],
     nodes: &[u16],
-) -> u32
-    ensures { result ≡ state_refusal sheet.now program.now (stores rows.now names.now ids.now nodes.now) }
+) -> Result<(), Refusal>
+    ensures { number_of result ≡ state_refusal sheet.now program.now (stores rows.now names.now ids.now nodes.now) }
 {
     if !is_sized(rows, names, ids, nodes) {
-        return 31;
+        return Err(Refusal::StoreTooShort);
     }
     if !is_shaped(sheet, program, rows) {
-        return 30;
+        return Err(Refusal::BadShape);
     }
-    0
+    Ok(())
 }

@@ -18,9 +18,7 @@ use Rattle.weighing.specs.Weighing.{pairs_full, tag_refusal}
 use Rattle.weighing.specs.Passing.{passed, stopped_by}
 use Rattle.weighing.specs.Words.{no_ids, front}
 use Rattle.course.specs.Course.{kind_of, begin}
-use Rattle.accepting.specs.declared.Answer.{Answer}
-use Rattle.accepting.specs.declared.Reply.{Reply}
-use Rattle.accepting.specs.Accepting.{Outcome, outcome, reply}
+use Rattle.accepting.specs.Accepting.{Answer, Reply, Outcome, outcome, reply}
 use Rattle.accepting.specs.Refusing.{refusing-is}
 use Rattle.tags.specs.Tags.{sought_of, begun, lowered}
 use Rattle.starts.specs.Starts.{start_call}

@@ -1,20 +1,21 @@
-//! The call for a start tag (mod.rs). Any bytes are answered or refused by a number of 01; a refused call changes nothing.
+//! The call for a start tag (mod.rs). Any bytes are answered or refused; a refused call changes nothing.
 #![tactic(auto)]
 
-ghost use Rattle.std.specs.Prelude.{◌≡◌, ◌≤◌, length};
+ghost use Rattle.std.specs.Prelude.{◌≡◌, ◌≤◌};
 ghost use Rattle.sheet.specs.Parser.{node_count};
-ghost use Rattle.stack.specs.Stores.{stores, opens, parents_top, ancestors_top};
-ghost use Rattle.accepting.specs.Accepting.{outcome};
+ghost use Rattle.stack.specs.Stores.{stores};
+ghost use Rattle.accepting.specs.Accepting.{reply_of, Limited, outcome};
 ghost use Rattle.tags.specs.Tags.{lowered};
 ghost use Rattle.starts.specs.Starts.{start_call};
 
-use accepting::{Reply, refused};
+use accepting::Answer;
 use course::{begin_scan, kind_of};
 use cursors::Cursor;
 use names::is_void;
-use shapes::{is_esi_on, state_refusal};
+use refusals::Refusal;
+use shapes::{check_state, is_esi_on};
 use tags::start_found;
-use weighing::{are_pairs_full, lower_into, tag_refusal};
+use weighing::{are_pairs_full, check_tag, lower_into};
 
 // A start tag by its lower-cased name and its kind.
 fn start_lowered(
@@ -26,12 +27,13 @@ fn start_lowered(
     nodes: &mut [u16],
     name: &[u8],
     kind: u32,
-) -> Reply
-    requires { (opens rows.old ≤ 256) × (parents_top rows.old ≤ 4096) × (ancestors_top rows.old ≤ 1024) × (length name.now ≤ 63) × (node_count sheet.now ≤ 1024) }
-    ensures { outcome result (stores rows.new names.new ids.new nodes.new) ≡ lowered sheet.now program.now (stores rows.old names.old ids.old nodes.old) name.now kind }
+) -> Result<Answer, Refusal>
+    requires limited { Limited rows.old name.now }
+    requires nodes_few { node_count sheet.now ≤ 1024 }
+    ensures { outcome (reply_of result) (stores rows.new names.new ids.new nodes.new) ≡ lowered sheet.now program.now (stores rows.old names.old ids.old nodes.old) name.now kind }
 {
     if are_pairs_full(rows, names, name) {
-        return refused(26);
+        return Err(Refusal::TooManyTypes);
     }
     let mut found = [0; 1024];
     let scanned = begin_scan(sheet, program, rows, names, nodes, name, kind, &mut found);
@@ -63,17 +65,11 @@ pub fn start(
     nodes: &mut [u16],
     namespace: u32,
     name: &[u8],
-) -> Reply
-    ensures { outcome result (stores rows.new names.new ids.new nodes.new) ≡ start_call sheet.now program.now (stores rows.old names.old ids.old nodes.old) namespace name.now }
+) -> Result<Answer, Refusal>
+    ensures { outcome (reply_of result) (stores rows.new names.new ids.new nodes.new) ≡ start_call sheet.now program.now (stores rows.old names.old ids.old nodes.old) namespace name.now }
 {
-    let state = state_refusal(sheet, program, rows, names, ids, nodes);
-    if state != 0 {
-        return refused(state);
-    }
-    let tag = tag_refusal(rows, namespace, name);
-    if tag != 0 {
-        return refused(tag);
-    }
+    check_state(sheet, program, rows, names, ids, nodes)?;
+    check_tag(rows, namespace, name)?;
     let mut low = [0; 64];
     lower_into(name, &mut low);
     let n = name.len();

@@ -11,9 +11,7 @@ use Rattle.cursors.specs.declared.Cursor.{Cursor}
 use Rattle.weighing.specs.Weighing.{push_refusal}
 use Rattle.weighing.specs.Passing.{passed, stopped_by}
 use Rattle.weighing.specs.Words.{cell, no_ids}
-use Rattle.accepting.specs.declared.Answer.{Answer}
-use Rattle.accepting.specs.declared.Reply.{Reply}
-use Rattle.accepting.specs.Accepting.{Outcome, outcome, reply, accepted}
+use Rattle.accepting.specs.Accepting.{Answer, Reply, Outcome, outcome, reply, accepted}
 use Rattle.accepting.specs.Refusing.{refusing-is}
 use Rattle.course.specs.Course.{has_content}
 use Rattle.tags.specs.Tags.{sought_of, whole, begun}

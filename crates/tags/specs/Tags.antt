@@ -5,8 +5,7 @@ use Rattle.exec.specs.Scans.{Sought, over, stopped}
 use Rattle.cursors.specs.declared.Cursor.{Cursor}
 use Rattle.weighing.specs.Weighing.{pairs_full, push_refusal}
 use Rattle.weighing.specs.Words.{cell, no_ids}
-use Rattle.accepting.specs.declared.Answer.{Answer}
-use Rattle.accepting.specs.Accepting.{Outcome, outcome, reply, refusing, accepted}
+use Rattle.accepting.specs.Accepting.{Answer, Outcome, outcome, reply, refusing, accepted}
 use Rattle.course.specs.Course.{has_content, begin, resumed}
 
 -- What a scan found: it stopped at a cursor, or it is over.

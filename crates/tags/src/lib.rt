@@ -2,15 +2,16 @@
 #![tactic(auto)]
 
 ghost use Rattle.std.specs.Prelude.{◌≡◌, ◌≤◌, length};
-ghost use Rattle.stack.specs.Stores.{stores, opens, parents_top, ancestors_top, released};
-ghost use Rattle.accepting.specs.Accepting.{outcome};
+ghost use Rattle.stack.specs.Stores.{stores, released};
+ghost use Rattle.accepting.specs.Accepting.{reply_of, Limited, outcome};
 ghost use Rattle.tags.specs.Tags.{sought_of, whole, begun};
 
-use accepting::{Answer, Reply, accept, refused};
+use accepting::{Answer, accept};
 use course::has_content;
 use cursors::Cursor;
+use refusals::Refusal;
 use waiting::{hold, release};
-use weighing::{cell_of, push_refusal};
+use weighing::{cell_of, check_push};
 
 // A tag that needs no attributes: refused by 27 or 28, or accepted.
 fn finish(
@@ -23,17 +24,15 @@ fn finish(
     name: &[u8],
     content: bool,
     found: &[u16],
-) -> Reply
-    requires { (opens rows.old ≤ 256) × (parents_top rows.old ≤ 4096) × (ancestors_top rows.old ≤ 1024) × (length name.now ≤ 63) × (length found.now ≤ 1024) }
-    ensures { outcome result (stores rows.new names.new ids.new nodes.new) ≡ whole sheet.now program.now (stores rows.old names.old ids.old nodes.old) (stores rows.old names.old ids.old nodes.old) name.now content found.now }
+) -> Result<Answer, Refusal>
+    requires limited { Limited rows.old name.now }
+    requires found_few { length found.now ≤ 1024 }
+    ensures { outcome (reply_of result) (stores rows.new names.new ids.new nodes.new) ≡ whole sheet.now program.now (stores rows.old names.old ids.old nodes.old) (stores rows.old names.old ids.old nodes.old) name.now content found.now }
 {
-    let r = push_refusal(sheet, program, rows, content, found);
-    if r != 0 {
-        return refused(r);
-    }
-    accept(
+    check_push(sheet, program, rows, content, found)?;
+    Ok(accept(
         sheet, program, rows, names, ids, nodes, name, content, found,
-    )
+    ))
 }
 
 // What the scan of a start tag found: it waits, or it is whole.
@@ -49,9 +48,10 @@ pub fn start_found(
     found: &[u16],
     stuck: bool,
     cursor: Cursor,
-) -> Reply
-    requires { (opens rows.old ≤ 256) × (parents_top rows.old ≤ 4096) × (ancestors_top rows.old ≤ 1024) × (length name.now ≤ 63) × (length found.now ≤ 1024) }
-    ensures { outcome result (stores rows.new names.new ids.new nodes.new) ≡ begun sheet.now program.now (stores rows.old names.old ids.old nodes.old) name.now kind (sought_of found.now stuck cursor) }
+) -> Result<Answer, Refusal>
+    requires limited { Limited rows.old name.now }
+    requires found_few { length found.now ≤ 1024 }
+    ensures { outcome (reply_of result) (stores rows.new names.new ids.new nodes.new) ≡ begun sheet.now program.now (stores rows.old names.old ids.old nodes.old) name.now kind (sought_of found.now stuck cursor) }
 {
     if stuck {
         let stage = cursor.stage;
@@ -59,10 +59,7 @@ pub fn start_found(
         let at = cell_of(cursor.at);
         let stop = cell_of(cursor.stop);
         hold(rows, names, nodes, name, kind, found, stage, slot, at, stop);
-        return Reply {
-            answer: Answer::Attributes,
-            ids: [0, 0],
-        };
+        return Ok(Answer::Attributes);
     }
     let content = has_content(kind, false);
     finish(
@@ -81,16 +78,14 @@ pub fn finish_held(
     name: &[u8],
     content: bool,
     found: &[u16],
-) -> Reply
-    requires { (opens rows.old ≤ 256) × (parents_top rows.old ≤ 4096) × (ancestors_top rows.old ≤ 1024) × (length name.now ≤ 63) × (length found.now ≤ 1024) }
-    ensures { outcome result (stores rows.new names.new ids.new nodes.new) ≡ whole sheet.now program.now (stores rows.old names.old ids.old nodes.old) (released (stores rows.old names.old ids.old nodes.old)) name.now content found.now }
+) -> Result<Answer, Refusal>
+    requires limited { Limited rows.old name.now }
+    requires found_few { length found.now ≤ 1024 }
+    ensures { outcome (reply_of result) (stores rows.new names.new ids.new nodes.new) ≡ whole sheet.now program.now (stores rows.old names.old ids.old nodes.old) (released (stores rows.old names.old ids.old nodes.old)) name.now content found.now }
 {
-    let r = push_refusal(sheet, program, rows, content, found);
-    if r != 0 {
-        return refused(r);
-    }
+    check_push(sheet, program, rows, content, found)?;
     release(rows);
-    accept(
+    Ok(accept(
         sheet, program, rows, names, ids, nodes, name, content, found,
-    )
+    ))
 }

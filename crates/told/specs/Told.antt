@@ -1,11 +1,8 @@
 -- What a C caller is told of an answer (01, sections 2 and 8): the kind of answer, a refusal's number, a value beside it, and the two id words.
 use Rattle.std.specs.Prelude.{cond, ℕ, get_or}
-use Rattle.accepting.specs.declared.Answer.{Answer}
-use Rattle.accepting.specs.declared.Reply.{Reply}
+use Rattle.accepting.specs.Accepting.{Answer, Reply}
 use Rattle.making.specs.Making.{Made}
-use Rattle.ends.specs.declared.Popped.{Popped}
-use Rattle.ends.specs.declared.Top.{Top}
-use Rattle.ends.specs.declared.TopReply.{TopReply}
+use Rattle.ends.specs.Ends.{Popped, Top, TopReply}
 use Rattle.told.specs.declared.Told.{Told}
 
 abbrev pub told : (kind refusal value low high : ℕ) → Told

@@ -2,12 +2,15 @@
 #![tactic(auto)]
 
 ghost use Rattle.std.specs.Prelude.{◌≡◌};
+ghost use Rattle.refusals.specs.Numbers.{number};
+ghost use Rattle.accepting.specs.Accepting.{reply_of};
 ghost use Rattle.making.specs.Making.{made_of};
-ghost use Rattle.told.specs.Told.{made_told, answer_told, reply_told, popped_told, top_told, top_reply_told};
+ghost use Rattle.ends.specs.Ends.{popped_of, top_of};
+ghost use Rattle.told.specs.Told.{made_told, refused_told, reply_told, popped_told, top_reply_told};
 
-use accepting::{Answer, Reply};
-use ends::{Popped, Top, TopReply};
+use accepting::Answer;
 use making::Unmade;
+use refusals::Refusal;
 
 /// What a call is answered. `kind` 0: refused, `refusal` is 01's number and `value` the place of a sheet's fault; 1: made; 2: match, `value` is the content flag; 3: waits for attributes; 4: `value` elements were popped; 5: ids of the top open element; 6: nothing is open. Id i is bit i of `low`, or bit i - 64 of `high`.
 #[repr(C)]
@@ -49,95 +52,85 @@ pub fn tell_made(made: Result<(), Unmade>) -> Told
     }
 }
 
-fn tell_answer(answer: Answer, low: u64, high: u64) -> Told
-    ensures { result ≡ answer_told answer low high }
+fn refused(refusal: Refusal) -> Told
+    ensures { result ≡ refused_told (number refusal) 0 }
 {
-    match answer {
-        Answer::Match(content) => Told {
-            kind: 2,
-            refusal: 0,
-            value: content as u64,
-            low,
-            high,
-        },
-        Answer::Attributes => Told {
-            kind: 3,
-            refusal: 0,
-            value: 0,
-            low,
-            high,
-        },
-        Answer::Refused(number) => Told {
-            kind: 0,
-            refusal: number,
-            value: 0,
-            low,
-            high,
-        },
+    Told {
+        kind: 0,
+        refusal: refusal.number(),
+        value: 0,
+        low: 0,
+        high: 0,
     }
 }
 
-pub fn tell_reply(reply: Reply) -> Told
-    ensures { result ≡ reply_told reply }
-{
-    let answer = reply.answer;
-    let words = reply.ids;
-    tell_answer(answer, words[0], words[1])
-}
+/// What a start tag or attributes are answered.
+impl From<Result<Answer, Refusal>> for Told {
+    ghost from_gives = { λ reply told. told ≡ reply_told (reply_of reply) };
 
-pub fn tell_popped(popped: Popped) -> Told
-    ensures { result ≡ popped_told popped }
-{
-    match popped {
-        Popped::Elements(count) => Told {
-            kind: 4,
-            refusal: 0,
-            value: count as u64,
-            low: 0,
-            high: 0,
-        },
-        Popped::Refused(number) => Told {
-            kind: 0,
-            refusal: number,
-            value: 0,
-            low: 0,
-            high: 0,
-        },
+    #[tactic(auto, unfolding(crate::specs::Told::reply_told, crate::specs::Told::answer_told))]
+    fn from(reply: Result<Answer, Refusal>) -> Told {
+        match reply {
+            Ok(Answer::Match { ids, content }) => Told {
+                kind: 2,
+                refusal: 0,
+                value: content as u64,
+                low: ids[0],
+                high: ids[1],
+            },
+            Ok(Answer::Attributes) => Told {
+                kind: 3,
+                refusal: 0,
+                value: 0,
+                low: 0,
+                high: 0,
+            },
+            Err(refusal) => refused(refusal),
+        }
     }
 }
 
-fn tell_top(top: Top, low: u64, high: u64) -> Told
-    ensures { result ≡ top_told top low high }
-{
-    match top {
-        Top::Ids => Told {
-            kind: 5,
-            refusal: 0,
-            value: 0,
-            low,
-            high,
-        },
-        Top::NothingOpen => Told {
-            kind: 6,
-            refusal: 0,
-            value: 0,
-            low,
-            high,
-        },
-        Top::Refused(number) => Told {
-            kind: 0,
-            refusal: number,
-            value: 0,
-            low,
-            high,
-        },
+/// What an end tag is answered.
+impl From<Result<usize, Refusal>> for Told {
+    ghost from_gives = { λ popped told. told ≡ popped_told (popped_of popped) };
+
+    #[tactic(auto, unfolding(crate::specs::Told::popped_told))]
+    fn from(popped: Result<usize, Refusal>) -> Told {
+        match popped {
+            Ok(count) => Told {
+                kind: 4,
+                refusal: 0,
+                value: count as u64,
+                low: 0,
+                high: 0,
+            },
+            Err(refusal) => refused(refusal),
+        }
     }
 }
 
-pub fn tell_top_reply(reply: TopReply) -> Told
-    ensures { result ≡ top_reply_told reply }
-{
-    let top = reply.top;
-    let words = reply.ids;
-    tell_top(top, words[0], words[1])
+/// What is told of the top open element.
+impl From<Result<Option<[u64; 2]>, Refusal>> for Told {
+    ghost from_gives = { λ top told. told ≡ top_reply_told (top_of top) };
+
+    #[tactic(auto, unfolding(crate::specs::Told::top_reply_told, crate::specs::Told::top_told))]
+    fn from(top: Result<Option<[u64; 2]>, Refusal>) -> Told {
+        match top {
+            Ok(Some(words)) => Told {
+                kind: 5,
+                refusal: 0,
+                value: 0,
+                low: words[0],
+                high: words[1],
+            },
+            Ok(None) => Told {
+                kind: 6,
+                refusal: 0,
+                value: 0,
+                low: 0,
+                high: 0,
+            },
+            Err(refusal) => refused(refusal),
+        }
+    }
 }

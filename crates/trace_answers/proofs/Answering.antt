@@ -6,11 +6,10 @@ use Rattle.lines.specs.Lines.{pop_line}
 use Rattle.attribute_records.specs.declared.Record.{Record}
 use Rattle.records.specs.Records.{record_end, record_of}
 use Rattle.stack.specs.Stores.{Stores}
-use Rattle.accepting.specs.declared.Answer.{Answer}
-use Rattle.ends.specs.Ends.{end_call}
+use Rattle.accepting.specs.Accepting.{Answer}
+use Rattle.ends.specs.Ends.{end_call, Popped}
 use Rattle.starts.specs.Starts.{start_call}
 use Rattle.resumes.specs.Resumes.{attributes_call}
-use Rattle.ends.specs.declared.Popped.{Popped}
 use Rattle.reply_lines.specs.ReplyLines.{answer_line, popped_line}
 use Rattle.replies.specs.Replies.{spoken, end_turn, popped_room}
 use Rattle.answers.specs.Answers.{turn_by, turn_of, outline_room}

@@ -22,8 +22,7 @@ use Rattle.accepting.specs.Accepting.{Outcome, refusing, accepted}
 use Rattle.tags.specs.Tags.{whole, begun, lowered, given}
 use Rattle.starts.specs.Starts.{start_call}
 use Rattle.resumes.specs.Resumes.{attributes_call}
-use Rattle.ends.specs.Ends.{end_call}
-use Rattle.ends.specs.declared.Popped.{Popped}
+use Rattle.ends.specs.Ends.{end_call, Popped}
 use Rattle.reply_lines.specs.ReplyLines.{answer_line, reply_line, popped_line}
 use Rattle.replies.specs.Replies.{Turn, spoken, end_turn, popped_room}
 use Rattle.attribute_records.specs.declared.Record.{Record}

@@ -1,29 +1,12 @@
--- What the count of parents says, and the turns of the lower-casing loop.
-use mathlib.Core.Path.{◌≡◌, sym, ap, ◌∙◌}
-use mathlib.Core.Bool.{true, false}
+-- The turns of the lower-casing loop.
+use mathlib.Core.Path.{◌≡◌, sym, ◌∙◌}
 use mathlib.Core.List.{List, ◌∷◌, map}
 use Prim.Native.Nat.{ℕ, ◌+◌, ◌<◌, ◌≤◌}
 use native.Mathlib.Numerals.{add-one}
-use borrow.Author.Tests.{lt-ltb, le-ltb}
-use lib.Dec.{ltb}
 use lib.ListN.{length, get_or, drop, set, drop_of_length-le}
 use lib.Seq.{drop-cons}
 use Rattle.cells.specs.Stretches.{written}
 use Rattle.letters.specs.Bytes.{lower_of}
-use Rattle.stack.specs.Stores.{bearers, child_block}
-
--- the parents so far and the new ones
-module _ (program found : List ℕ) (a x k n m : ℕ) (e : a ≡ x) (l : n ≡ m) (c : k ≡ length (bearers program n child_block found)) where
-  counted : k ≡ length (bearers program m child_block found)
-  counted = c ∙ ap (λ (z : ℕ). length (bearers program z child_block found)) l
-
-  pub too_many : 4096 < a + k → ltb 4096 (x + length (bearers program m child_block found)) ≡ true
-  too_many h = lt-ltb 4096 (x + length (bearers program m child_block found)) (rw (← e, ← counted) h)
-
-  pub few-enough : a + k ≤ 4096 → ltb 4096 (x + length (bearers program m child_block found)) ≡ false
-  few-enough h = le-ltb 4096 (x + length (bearers program m child_block found)) (rw (← e, ← counted) h)
-
--- ---- lower-casing
 
 module _ (out₀ out name : List ℕ) (i : ℕ) (inv : written out₀ 0 (map lower_of name) ≡ written out i (map lower_of (drop i name))) where
   pub lower-more : (last : List ℕ) (b : ℕ) → i < length name → b ≡ lower_of (get_or name i 0) → last ≡ set out i b → written out₀ 0 (map lower_of name) ≡ written last (i + 1) (map lower_of (drop (i + 1) name))

@@ -1,6 +1,8 @@
 -- What a refusal's number says, and what no refusal leaves known.
 use Rattle.std.specs.Prelude.{◌≡◌, Bool, true, false, cond, not, List, ℕ, ◌<◌, ◌≤◌, T, eqb, ltb, leb, length, get_or}
 use Rattle.std.proofs.Common.{sym, ◌∙◌, subst, arith, eq-eqb, ne_eqb, ltb-false, leb-false}
+use Rattle.refusals.specs.declared.Refusal.{Refusal}
+use Rattle.refusals.specs.Numbers.{number}
 use Rattle.shapes.specs.Passing.{all-passed}
 use Rattle.stack.specs.Stores.{opens}
 use Rattle.weighing.specs.Weighing.{is_bad_name, tag_refusal, push_refusal, end_refusal}
@@ -12,6 +14,21 @@ module _ (r x : ℕ) (e : r ≡ x) where
 
   pub stopped_by : (r ≡ 0 → ⊥) → eqb x 0 ≡ false
   stopped_by h = ne_eqb x 0 (λ z. h (e ∙ z))
+
+-- every refusal has a number
+pub numbered : (refusal : Refusal) → number refusal ≡ 0 → ⊥
+numbered Refusal.BadName e = omega (arith, e)
+numbered Refusal.BadNamespace e = omega (arith, e)
+numbered Refusal.TagWaits e = omega (arith, e)
+numbered Refusal.NoTagWaits e = omega (arith, e)
+numbered Refusal.BadOutlines e = omega (arith, e)
+numbered Refusal.ChildCountFull e = omega (arith, e)
+numbered Refusal.TooManyTypes e = omega (arith, e)
+numbered Refusal.TooManyOpen e = omega (arith, e)
+numbered Refusal.TooManyMatched e = omega (arith, e)
+numbered Refusal.BufferTooShort e = omega (arith, e)
+numbered Refusal.BadShape e = omega (arith, e)
+numbered Refusal.StoreTooShort e = omega (arith, e)
 
 -- ---- what no refusal means
 

@@ -1,9 +1,10 @@
-//! What a call weighs of its own before it writes anything: the refusals of 01, section 2, each by its number; 0 is none.
+//! What a call weighs of its own before it writes anything: the refusals of 01, section 2.
 #![tactic(auto)]
 
 ghost use Rattle.std.specs.Prelude.{◌≡◌, map};
 ghost use Rattle.cells.specs.Stretches.{written};
 ghost use Rattle.letters.specs.Bytes.{lower_of};
+ghost use Rattle.refusals.specs.Numbers.{number_of};
 ghost use Rattle.weighing.specs.Weighing.{is_bad_name, tag_refusal, pairs_full, push_refusal, attributes_refusal, end_refusal};
 ghost use Rattle.weighing.specs.Words.{cell};
 
@@ -11,108 +12,110 @@ use cells::numbers::u16_at;
 use cells::{at32, put8};
 use counters::{child_count, is_known};
 use letters::lower;
+use refusals::Refusal;
 use rules::attribute_matcher::good_outlines;
-use shapes::counts_types;
+use shapes::{NAME_LIMIT, OPEN_LIMIT, PAIR_LIMIT, PARENT_LIMIT, counts_types};
 use stack::blocks::count_parents;
+use stack::{OPENS, PAIRS_TOP, PARENTS_TOP, WAITS};
 
+// The highest namespace, and the most children that an element counts.
+const LAST_NAMESPACE: u32 = 2;
+
+const CHILD_LIMIT: u32 = 2147483647;
+
+#[tactic(auto, unfolding(crate::specs::Weighing::is_bad_name))]
 pub fn is_bad_name(name: &[u8]) -> bool
     ensures { result ≡ is_bad_name name.now }
 {
-    if name.len() == 0 {
-        return true;
-    }
-    63 < name.len()
+    name.is_empty() || NAME_LIMIT < name.len()
 }
 
 // Writes the lower-cased name to the front of a buffer.
 pub fn lower_into(name: &[u8], out: &mut [u8])
     ensures { out.new ≡ written out.old 0 (map lower_of name.now) }
 {
-    let mut i = 0;
-    while i < name.len() {
+    for i in 0..name.len() {
         put8(out, i, lower(name[i]));
-        i += 1;
     }
 }
 
 // Start tag, before its name is looked for: 22, 20, 21, 25.
-pub fn tag_refusal(rows: &[u32], namespace: u32, name: &[u8]) -> u32
-    ensures { result ≡ tag_refusal rows.now namespace name.now }
+#[tactic(auto, unfolding(crate::specs::Weighing::tag_refusal))]
+pub fn check_tag(rows: &[u32], namespace: u32, name: &[u8]) -> Result<(), Refusal>
+    ensures { number_of result ≡ tag_refusal rows.now namespace name.now }
 {
-    if at32(rows, 4) != 0 {
-        return 22;
+    if at32(rows, WAITS) != 0 {
+        return Err(Refusal::TagWaits);
     }
     if is_bad_name(name) {
-        return 20;
+        return Err(Refusal::BadName);
     }
-    if 2 < namespace {
-        return 21;
+    if LAST_NAMESPACE < namespace {
+        return Err(Refusal::BadNamespace);
     }
-    if 2147483647 <= child_count(rows) {
-        return 25;
+    if CHILD_LIMIT <= child_count(rows) {
+        return Err(Refusal::ChildCountFull);
     }
-    0
+    Ok(())
 }
 
 // 26, for a lower-cased name.
+#[tactic(auto, unfolding(crate::specs::Weighing::pairs_full))]
 pub fn are_pairs_full(rows: &[u32], names: &[u8], name: &[u8]) -> bool
     ensures { result ≡ pairs_full rows.now names.now name.now }
 {
-    if !counts_types(rows) {
-        return false;
-    }
-    if at32(rows, 3) < 512 {
-        return false;
-    }
-    !is_known(rows, names, name)
+    counts_types(rows) && PAIR_LIMIT <= at32(rows, PAIRS_TOP) && !is_known(rows, names, name)
 }
 
 // A tag that is whole: 27, 28, if it would be pushed.
-pub fn push_refusal(
+#[tactic(auto, unfolding(crate::specs::Weighing::push_refusal))]
+pub fn check_push(
     sheet: &[u8],
     program: &[u32],
     rows: &[u32],
     content: bool,
     found: &[u16],
-) -> u32
-    ensures { result ≡ push_refusal sheet.now program.now rows.now content found.now }
+) -> Result<(), Refusal>
+    ensures { number_of result ≡ push_refusal sheet.now program.now rows.now content found.now }
 {
     if !content {
-        return 0;
+        return Ok(());
     }
-    if 256 <= at32(rows, 0) {
-        return 27;
+    if OPEN_LIMIT <= at32(rows, OPENS) {
+        return Err(Refusal::TooManyOpen);
     }
-    if 4096 < at32(rows, 1) + count_parents(program, u16_at(sheet, 5), found) {
-        return 28;
+    if PARENT_LIMIT < at32(rows, PARENTS_TOP) + count_parents(program, u16_at(sheet, 5), found) {
+        return Err(Refusal::TooManyMatched);
     }
-    0
+    Ok(())
 }
 
 // Attributes: 23, 24.
-pub fn attributes_refusal(rows: &[u32], input: &[u8], outlines: &[u32]) -> u32
-    ensures { result ≡ attributes_refusal rows.now input.now outlines.now }
+#[tactic(auto, unfolding(crate::specs::Weighing::attributes_refusal))]
+pub fn check_attributes(rows: &[u32], input: &[u8], outlines: &[u32]) -> Result<(), Refusal>
+    ensures { number_of result ≡ attributes_refusal rows.now input.now outlines.now }
 {
-    if at32(rows, 4) == 0 {
-        return 23;
+    if at32(rows, WAITS) == 0 {
+        return Err(Refusal::NoTagWaits);
     }
     if !good_outlines(input, outlines) {
-        return 24;
+        return Err(Refusal::BadOutlines);
     }
-    0
+    Ok(())
 }
 
 // End tag, before its name is looked for: 22, 20.
-pub fn end_refusal(rows: &[u32], name: &[u8]) -> u32
-    ensures { result ≡ end_refusal rows.now name.now }
+#[tactic(auto, unfolding(crate::specs::Weighing::end_refusal))]
+pub fn check_end(rows: &[u32], name: &[u8]) -> Result<(), Refusal>
+    ensures { number_of result ≡ end_refusal rows.now name.now }
 {
-    if at32(rows, 4) != 0 {
-        return 22;
+    if at32(rows, WAITS) != 0 {
+        return Err(Refusal::TagWaits);
     }
     if is_bad_name(name) {
-        return 20;
+        return Err(Refusal::BadName);
     }
-    0
+    Ok(())
 }
 
 // A number as a cell of the rows keeps it.

@@ -3,7 +3,7 @@ use Rattle.accepting.proofs.Laws.{accept-pushed, accept-counted, push-room, push
 use Rattle.accepting.proofs.accept.Goals as goal
 
 pub push_item-requires : goal.push_item-requires
-push_item-requires c = let p = c.requires in (push-room _ _ _ _ _ c.add_child.ensures.0 _ _ _ _ p.found_value c.if-content.true, push-parents _ _ _ _ _ c.add_child.ensures.0 p.rows_bound.1, push-ancestors _ _ _ _ _ c.add_child.ensures.0 p.rows_bound.2, p.rows_bound.3, omega arith, p.rows_bound.4)
+push_item-requires c = let p = c.requires in (push-room _ _ _ _ _ c.add_child.ensures.0 _ _ _ _ p.unrefused c.if-content.true, push-parents _ _ _ _ _ c.add_child.ensures.0 p.limited.1, push-ancestors _ _ _ _ _ c.add_child.ensures.0 p.limited.2, p.limited.3, omega arith, p.found_few)
 
 pub returns-then-content : goal.returns-then-content
 returns-then-content c = accept-pushed _ _ _ _ _ _ _ _ _ _ _ _ _ c.gather_ids.ensures c.counts_types-types.ensures c.add_child.ensures _ _ c.if-content.true c.u16_at.ensures c.push_item.ensures

@@ -1,11 +1,11 @@
-use Rattle.ends.proofs.Calling.{asked-state, asked_top, asked_none}
+use Rattle.std.proofs.lemmas.Result.{err_from_is_err_and}
+use mathlib.Core.Path.{refl}
+use Rattle.weighing.specs.Passing.{numbered}
+use Rattle.ends.proofs.Calling.{asked-state, asked}
 use Rattle.ends.proofs.id_set.Goals as goal
 
-pub returns-then-state-ne0 : goal.returns-then-state-ne0
-returns-then-state-ne0 c = asked-state _ _ _ _ c.state_refusal-state.ensures c.if-state-ne0.true
-
-pub returns-then-top_ids : goal.returns-then-top_ids
-returns-then-top_ids c = asked_top _ _ _ _ c.state_refusal-state.ensures c.if-state-ne0.false _ _ c.top_ids.ensures c.if-top_ids.true
+pub returns-in_err-check_state : goal.returns-in_err-check_state
+returns-in_err-check_state c = let p = err_from_is_err_and c.from_residual.result c.from_residual.ensures.1 in rw (p.1, p.2) (asked-state _ _ _ _ c.in_err-check_state.ensures (numbered _))
 
 pub returns : goal.returns
-returns c = asked_none _ _ _ _ c.state_refusal-state.ensures c.if-state-ne0.false _ _ c.top_ids.ensures c.if-top_ids.false
+returns c = asked _ _ _ _ c.in_ok-check_state.ensures refl _ c.top_ids.ensures

@@ -1,20 +1,23 @@
+use Rattle.std.proofs.lemmas.Result.{err_from_is_err_and}
+use mathlib.Core.Path.{refl}
 use Rattle.course.specs.CourseLaws.{part-few}
 use native.Mathlib.Omega.{arith}
 use Rattle.shapes.specs.Passing.{state-shape}
+use Rattle.weighing.specs.Passing.{numbered}
 use Rattle.resumes.proofs.Laws.{attributes-state, attributes_refused, attributes-given}
 use Rattle.resumes.proofs.attributes.Goals as goal
 
-pub returns-then-state-ne0 : goal.returns-then-state-ne0
-returns-then-state-ne0 c = attributes-state _ _ _ _ _ _ _ c.state_refusal-state.ensures _ c.if-state-ne0.true c.refused.ensures
+pub returns-in_err-check_state : goal.returns-in_err-check_state
+returns-in_err-check_state c = let p = err_from_is_err_and c.from_residual.result c.from_residual.ensures.1 in rw (p.1, p.2) (attributes-state _ _ _ _ _ _ _ c.in_err-check_state.ensures _ (numbered _) refl)
 
-pub returns-then-given-ne0 : goal.returns-then-given-ne0
-returns-then-given-ne0 c = attributes_refused _ _ _ _ _ _ _ c.state_refusal-state.ensures c.if-state-ne0.false _ c.attributes_refusal-given.ensures _ c.if-given-ne0.true c.refused-then-given-ne0.ensures
+pub returns-in_err-check_attributes : goal.returns-in_err-check_attributes
+returns-in_err-check_attributes c = let p = err_from_is_err_and c.from_residual-in_err-check_attributes.result c.from_residual-in_err-check_attributes.ensures.1 in rw (p.1, p.2) (attributes_refused _ _ _ _ _ _ _ c.in_ok-check_state.ensures refl _ c.in_err-check_attributes.ensures _ (numbered _) refl)
 
 pub slice_bounds-attributes_named-end : goal.slice_bounds-attributes_named-end
-slice_bounds-attributes_named-end c = let s = (state-shape _ _ _ _ c.state_refusal-state.ensures c.if-state-ne0.false).name_short in omega (arith, s, c.held_name-n.ensures.0)
+slice_bounds-attributes_named-end c = let s = (state-shape _ _ _ _ c.in_ok-check_state.ensures refl).name_short in omega (arith, s, c.held_name-n.ensures.0)
 
 pub attributes_named-requires : goal.attributes_named-requires
-attributes_named-requires c = let s = state-shape _ _ _ _ c.state_refusal-state.ensures c.if-state-ne0.false in let n = s.name_short in (s.open_few, s.parents_few, s.ancestors_few, part-few _ c.held_name-n.result 63 (omega (arith, n, c.held_name-n.ensures.0)), s.found_few, s.nodes_few)
+attributes_named-requires c = let s = state-shape _ _ _ _ c.in_ok-check_state.ensures refl in let n = s.name_short in record { limited = (s.open_few, s.parents_few, s.ancestors_few, part-few _ c.held_name-n.result 63 (omega (arith, n, c.held_name-n.ensures.0))); held_few = s.found_few; nodes_few = s.nodes_few }
 
 pub returns : goal.returns
-returns c = let n = (state-shape _ _ _ _ c.state_refusal-state.ensures c.if-state-ne0.false).name_short in attributes-given _ _ _ _ _ _ _ c.state_refusal-state.ensures c.if-state-ne0.false _ c.attributes_refusal-given.ensures _ _ _ _ c.if-given-ne0.false c.held_name-n.ensures (omega (arith, n)) c.attributes_named.ensures
+returns c = let n = (state-shape _ _ _ _ c.in_ok-check_state.ensures refl).name_short in attributes-given _ _ _ _ _ _ _ c.in_ok-check_state.ensures refl _ c.in_ok-check_attributes.ensures _ _ _ _ refl c.held_name-n.ensures (omega (arith, n)) c.attributes_named.ensures

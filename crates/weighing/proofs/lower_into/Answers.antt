@@ -4,13 +4,10 @@ use Rattle.weighing.proofs.Steps.{lower-more, lower-end}
 use Rattle.weighing.proofs.lower_into.Goals as goal
 
 pub loop-i-init : goal.loop-i-init
-loop-i-init c = (refl, (omega arith, refl))
+loop-i-init c = (refl, refl)
 
 pub loop-i-preserved : goal.loop-i-preserved
-loop-i-preserved c = (c.put8.auto.s ∙ c.loop-i.invariant.0, (omega arith, lower-more _ _ _ _ c.loop-i.invariant.1.1 _ _ c.loop-i-test.true c.lower.ensures c.put8.ensures))
-
-pub shape_of-out : goal.shape_of-out
-shape_of-out c = c.loop-i.invariant.0
+loop-i-preserved c = (c.put8.auto.s ∙ c.loop-i.invariant.0, lower-more _ _ _ _ c.loop-i.invariant.1 _ _ (omega arith) c.lower.ensures c.put8.ensures)
 
 pub returns : goal.returns
-returns c = lower-end _ _ _ _ c.loop-i.invariant.1.1 c.loop-i-test.false
+returns c = lower-end _ _ _ _ c.loop-i.invariant.1 (omega arith)
