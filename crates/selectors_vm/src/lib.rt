@@ -10,7 +10,7 @@ ghost use Rattle.stack.specs.Stores.{stores};
 ghost use Rattle.told.specs.Told.{made_told, reply_told, popped_told, top_reply_told};
 ghost use Rattle.selectors_vm.specs.Flags.{is_on};
 
-use told::{Told, tell_made};
+use told::Told;
 
 /// Makes a machine of a sheet, whatever its stores held.
 #[unsafe(no_mangle)]
@@ -25,7 +25,7 @@ pub extern "C" fn selectors_vm_fresh(
 ) -> Told
     ensures { (result ≡ made_told (fresh_call sheet.now (is_on esi) program.old (stores rows.old names.now ids.now nodes.now)).made) × (program.new ≡ (fresh_call sheet.now (is_on esi) program.old (stores rows.old names.now ids.now nodes.now)).program) × (rows.new ≡ (fresh_call sheet.now (is_on esi) program.old (stores rows.old names.now ids.now nodes.now)).rows) }
 {
-    tell_made(making::fresh_machine(sheet, esi != 0, program, rows, names, ids, nodes))
+    making::fresh_machine(sheet, esi != 0, program, rows, names, ids, nodes).into()
 }
 
 /// A start tag, by its namespace (0 HTML, 1 SVG, 2 MathML) and its name.

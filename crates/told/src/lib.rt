@@ -23,35 +23,7 @@ pub struct Told {
     pub high: u64,
 }
 
-#[tactic(auto, unfolding(crate::specs::Told::made_told))]
-pub fn tell_made(made: Result<(), Unmade>) -> Told
-    ensures { result ≡ made_told (made_of made) }
-{
-    match made {
-        Ok(()) => Told {
-            kind: 1,
-            refusal: 0,
-            value: 0,
-            low: 0,
-            high: 0,
-        },
-        Err(Unmade::Sheet(fault)) => Told {
-            kind: 0,
-            refusal: u32::from(fault.refusal.number()),
-            value: fault.place as u64,
-            low: 0,
-            high: 0,
-        },
-        Err(Unmade::Refused(refusal)) => Told {
-            kind: 0,
-            refusal: refusal.number(),
-            value: 0,
-            low: 0,
-            high: 0,
-        },
-    }
-}
-
+// A refusal of a call, by its number.
 fn refused(refusal: Refusal) -> Told
     ensures { result ≡ refused_told (number refusal) 0 }
 {
@@ -61,6 +33,32 @@ fn refused(refusal: Refusal) -> Told
         value: 0,
         low: 0,
         high: 0,
+    }
+}
+
+/// What the making of a machine is answered.
+impl From<Result<(), Unmade>> for Told {
+    ghost from_gives = { λ made told. told ≡ made_told (made_of made) };
+
+    #[tactic(auto, unfolding(crate::specs::Told::made_told))]
+    fn from(made: Result<(), Unmade>) -> Told {
+        match made {
+            Ok(()) => Told {
+                kind: 1,
+                refusal: 0,
+                value: 0,
+                low: 0,
+                high: 0,
+            },
+            Err(Unmade::Sheet(fault)) => Told {
+                kind: 0,
+                refusal: u32::from(fault.refusal.number()),
+                value: fault.place as u64,
+                low: 0,
+                high: 0,
+            },
+            Err(Unmade::Refused(refusal)) => refused(refusal),
+        }
     }
 }
 
