@@ -4,7 +4,7 @@
 ghost use Rattle.std.specs.Prelude.{◌≡◌, ◌+◌, ◌≤◌, ◌^◌, max};
 ghost use Rattle.candidates.specs.Candidates.{Reached, affordable, first_keyed};
 
-use cells::get32;
+use cells::get;
 use cursors::{Cursor, Jump, Ranges};
 
 // The cursor on the next instruction whose key fits, with the budget for what comes after it.
@@ -38,7 +38,7 @@ fn first_keyed(program: &[u32], key: u32, from: usize, count: usize) -> usize
     let end = from + count;
     let mut a = from;
     while a < end {
-        let wanted = get32(program, a * 8 + 7);
+        let wanted = get(program, a * 8 + 7);
         if wanted == 0 {
             return a;
         }

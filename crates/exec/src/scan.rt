@@ -6,7 +6,7 @@ ghost use Rattle.exec.specs.Scans.{tag_scan, answer_from, found_in, attribute_sc
 ghost use Rattle.exec.specs.Searching.{Within};
 
 use candidates::{Candidate, next_candidate};
-use cells::put16;
+use cells::put;
 use cursors::{Cursor, Ranges};
 use instructions::instruction::{asks_attributes, attributes_pass, tag_tests_pass, tests_bytes};
 
@@ -86,7 +86,7 @@ pub fn scan_tag(
                             cursor: d,
                         };
                     }
-                    put16(found, count, a);
+                    put(found, count, a);
                     count += 1;
                 }
             }
@@ -140,7 +140,7 @@ pub fn scan_attributes(
                 bytes = rest;
                 if tag_tests_pass(sheet, program, a, name, child, of_type) {
                     if attributes_pass(sheet, program, a, input, outlines, html) {
-                        put16(found, all, a);
+                        put(found, all, a);
                         all += 1;
                     }
                 }

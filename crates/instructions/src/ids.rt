@@ -2,7 +2,7 @@
 ghost use Rattle.std.specs.Prelude.{◌≡◌};
 ghost use Rattle.instructions.specs.FoundIds.{with_ids, with_ids_of};
 
-use cells::{at8, at16, at32, part_of};
+use cells::{number_at, part_of};
 use id_sets::add_id;
 
 // The set with the listed ids.
@@ -11,7 +11,7 @@ fn add_ids(listed: &[u8], ids: &mut [u64])
 {
     let mut i = 0;
     while i < listed.len() {
-        add_id(ids, at8(listed, i));
+        add_id(ids, number_at(listed, i));
         i += 1;
     }
 }
@@ -22,8 +22,8 @@ pub fn gather_ids(sheet: &[u8], program: &[u32], found: &[u16], ids: &mut [u64])
 {
     let mut i = 0;
     while i < found.len() {
-        let place = at32(program, at16(found, i) * 8);
-        let count = at8(sheet, place + 2);
+        let place = number_at(program, number_at(found, i) * 8);
+        let count = number_at(sheet, place + 2);
         add_ids(part_of(sheet, place + 3, place + 3 + count), ids);
         i += 1;
     }

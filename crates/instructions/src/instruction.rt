@@ -4,7 +4,7 @@ ghost use Rattle.rules.specs.Attributes.{attributes_of};
 ghost use Rattle.instructions.specs.Instructions.{row_word, tag_tests_hold, attribute_tests_hold, tests_end, tag_count, attribute_count, tag_tests_pass, attribute_passes, asks};
 
 use cells::numbers::u16_at;
-use cells::{at32, part_of};
+use cells::{number_at, part_of};
 use node_tests::{attribute_test, tag_test};
 
 // So many tag tests from a place of the sheet on.
@@ -69,8 +69,8 @@ pub fn tests_bytes(sheet: &[u8], program: &[u32], a: u16) -> usize
     ensures { result ≡ tests_end sheet.now (tag_count program.now a + attribute_count program.now a) (row_word program.now a 1) - row_word program.now a 1 }
 {
     let row = a as usize * 8;
-    let counts = at32(program, row + 2);
-    let from = at32(program, row + 1);
+    let counts = number_at(program, row + 2);
+    let from = number_at(program, row + 1);
     tests_end(sheet, counts / 256 % 256 + counts % 256, from) - from
 }
 
@@ -86,8 +86,15 @@ pub fn tag_tests_pass(
     ensures { result ≡ tag_tests_pass sheet.now program.now name.now child of_type a }
 {
     let row = a as usize * 8;
-    let count = at32(program, row + 2) / 256 % 256;
-    tag_tests(sheet, name, child, of_type, count, at32(program, row + 1))
+    let count = number_at(program, row + 2) / 256 % 256;
+    tag_tests(
+        sheet,
+        name,
+        child,
+        of_type,
+        count,
+        number_at(program, row + 1),
+    )
 }
 
 // Whether all attribute tests of an instruction hold: they follow its tag tests.
@@ -102,8 +109,8 @@ pub fn attributes_pass(
     ensures { result ≡ attribute_passes sheet.now program.now html (attributes_of input.now outlines.now) a }
 {
     let row = a as usize * 8;
-    let counts = at32(program, row + 2);
-    let from = tests_end(sheet, counts / 256 % 256, at32(program, row + 1));
+    let counts = number_at(program, row + 2);
+    let from = tests_end(sheet, counts / 256 % 256, number_at(program, row + 1));
     attribute_tests(sheet, input, outlines, html, counts % 256, from)
 }
 
@@ -111,6 +118,6 @@ pub fn attributes_pass(
 pub fn asks_attributes(program: &[u32], a: u16) -> bool
     ensures { result ≡ asks program.now a }
 {
-    let counts = at32(program, a as usize * 8 + 2);
+    let counts = number_at(program, a as usize * 8 + 2);
     counts % 256 != 0
 }

@@ -1,41 +1,38 @@
 //! The open elements (StackItem): the nearest with a name, the pop, and the ids of the top; the push is in `pushes`.
 #![tactic(auto)]
 
-ghost use Rattle.std.specs.Prelude.{◌≡◌, ◌<◌, ◌≤◌, ◌^◌, ltb};
-ghost use Rattle.cells.specs.Stretches.{cells_from, written};
-ghost use Rattle.stack.specs.Stores.{open_limit, parent_limit, ancestor_limit, found_limit, name_limit, id_words, stores, opens, parents_top, ancestors_top, child_block, bears, bearers, listed, new_ancestors, with_row, pushed, nearest, popped_count, popped_rows, popped_ids, ids_of_top};
+ghost use Rattle.std.specs.Prelude.{◌≡◌, ◌<◌, ◌≤◌, unwrap_or, IfSome, ltb};
+ghost use Rattle.stack.specs.Stores.{opens, nearest, popped_count, popped_rows, popped_ids, ids_of_top};
 
-use cells::{at32, get32};
+use cells::{get, number_at};
 use counters::holds_name;
-use stack::copies::{copy32, copy64};
+use stack::copies::copy;
 use stack::{
     ANCESTORS_MARK, ANCESTORS_TOP, ID_WORDS, NAME, OPENS, PAIRS_MARK, PAIRS_TOP, PARENTS_MARK, ROW,
     ROWS,
 };
 
-// The nearest open element with the name, from 1 on; 0 if there is none.
-pub fn find_open(rows: &[u32], names: &[u8], name: &[u8]) -> usize
-    ensures { (result ≡ nearest rows.now names.now name.now (opens rows.now)) × (result ≤ opens rows.now) }
+// The nearest open element with the name; the first is 1.
+pub fn find_open(rows: &[u32], names: &[u8], name: &[u8]) -> Option<usize>
+    ensures found { unwrap_or result 0 ≡ nearest rows.now names.now name.now (opens rows.now) }
+    ensures open { IfSome result (λ k. (0 < k) × (k ≤ opens rows.now)) }
 {
-    let mut k = at32(rows, OPENS);
-    while 0 < k {
-        if holds_name(names, k * NAME, at32(rows, ROWS + k * ROW), name) {
-            return k;
+    for k in (1..=number_at(rows, OPENS)).rev() {
+        if holds_name(names, k * NAME, number_at(rows, ROWS + k * ROW), name) {
+            return Some(k);
         }
-        k -= 1;
     }
-    0
+    None
 }
 
 // How many an end tag of the name pops.
 pub fn count_popped(rows: &[u32], names: &[u8], name: &[u8]) -> usize
     ensures { (result ≡ popped_count rows.now names.now name.now) × (result ≤ opens rows.now) }
 {
-    let p = find_open(rows, names, name);
-    if p == 0 {
-        return 0;
+    match find_open(rows, names, name) {
+        Some(k) => number_at(rows, OPENS) + 1 - k,
+        None => 0,
     }
-    at32(rows, OPENS) + 1 - p
 }
 
 // The pop of the n innermost: their ids go out, the outermost first, and the header is as it was before that one came. That n are open, count_popped promises.
@@ -43,29 +40,29 @@ pub fn pop_items(rows: &mut [u32], ids: &[u64], n: usize, out: &mut [u64])
     requires { n ≤ opens rows.old }
     ensures { (rows.new ≡ popped_rows rows.old n) × (out.new ≡ popped_ids rows.old ids.now out.old n) }
 {
-    let k = at32(rows, OPENS) - n;
-    copy64(ids, (k + 1) * ID_WORDS, n * ID_WORDS, out, 0);
+    let k = number_at(rows, OPENS) - n;
+    copy(ids, (k + 1) * ID_WORDS, n * ID_WORDS, out, 0);
     if n == 0 {
         return;
     }
     let row = ROWS + (k + 1) * ROW;
     let header = [
         k as u32,
-        get32(rows, row + PARENTS_MARK),
-        get32(rows, row + ANCESTORS_MARK),
-        get32(rows, row + PAIRS_MARK),
+        get(rows, row + PARENTS_MARK),
+        get(rows, row + ANCESTORS_MARK),
+        get(rows, row + PAIRS_MARK),
     ];
-    copy32(&header, 0, 4, rows, 0);
+    copy(&header, 0, 4, rows, 0);
 }
 
 // The ids of the top open element; the answer is whether there is one.
 pub fn top_ids(rows: &[u32], ids: &[u64], out: &mut [u64]) -> bool
     ensures { (result ≡ ltb 0 (opens rows.now)) × (out.new ≡ ids_of_top rows.now ids.now out.old) }
 {
-    let k = at32(rows, OPENS);
+    let k = number_at(rows, OPENS);
     if k == 0 {
         return false;
     }
-    copy64(ids, k * ID_WORDS, ID_WORDS, out, 0);
+    copy(ids, k * ID_WORDS, ID_WORDS, out, 0);
     true
 }

@@ -6,7 +6,7 @@ ghost use Rattle.id_sets.specs.Ids.{ids_of};
 ghost use Rattle.text.specs.Text.{Wrote};
 ghost use Rattle.match_lines.specs.MatchLines.{ids_text, match_line};
 
-use cells::put8;
+use cells::put;
 use id_sets::{Next, next_id};
 use text::{put_decimal, put_text};
 
@@ -23,7 +23,7 @@ pub fn put_ids(out: &mut [u8], at: usize, words: &[u64]) -> usize
         let Next::Id(id) = found else {
             return next;
         };
-        put8(out, next, 32);
+        put(out, next, 32);
         next = put_decimal(out, next + 1, id as u64);
         from = id + 1;
     }

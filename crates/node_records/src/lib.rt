@@ -6,7 +6,7 @@ ghost use Rattle.node_records.specs.Records.{counts_at};
 ghost use Rattle.node_records.specs.Checks.{kind_ok, name_length_ok, comparison_ok, body_ok, check_test, check_tests, rising, check_counts, check_ids, check_record, counts_of};
 
 use cells::numbers::u16_at;
-use cells::{at8, get8, part_of};
+use cells::{get, number_at, part_of};
 
 // Where the next piece begins, or a refusal and its place.
 #[derive(Clone, Copy)]
@@ -48,10 +48,10 @@ fn comparison_ok(body: &[u8]) -> bool
     if body.len() < 2 {
         return false;
     }
-    if 3 < at8(body, 0) {
+    if 3 < number_at(body, 0) {
         return false;
     }
-    at8(body, 1) + 2 <= body.len()
+    number_at(body, 1) + 2 <= body.len()
 }
 
 fn body_ok(kind: u8, body: &[u8]) -> bool
@@ -86,11 +86,11 @@ fn check_test(s: &[u8], node: usize, end: usize, attributes: bool, at: usize) ->
     if n < 2 {
         return Step::Refused(12, at);
     }
-    let kind = get8(s, at + 2);
+    let kind = get(s, at + 2);
     if !kind_ok(attributes, kind) {
         return Step::Refused(11, at);
     }
-    if 1 < at8(s, at + 3) {
+    if 1 < number_at(s, at + 3) {
         return Step::Refused(12, at);
     }
     if !body_ok(kind, part_of(s, at + 4, at + 2 + n)) {
@@ -127,7 +127,7 @@ fn ids_rise(ids: &[u8]) -> bool
     let mut i = 0;
     let mut least: usize = 0;
     while i < ids.len() {
-        let id = at8(ids, i);
+        let id = number_at(ids, i);
         if id < least {
             return false;
         }
@@ -148,8 +148,8 @@ fn check_counts(s: &[u8], node: usize, end: usize, p: usize) -> Counts
     if end - p < 2 {
         return Counts::Refused(8, node);
     }
-    let tags = at8(s, p);
-    let attributes = at8(s, p + 1);
+    let tags = number_at(s, p);
+    let attributes = number_at(s, p + 1);
     if tags + attributes == 0 {
         return Counts::Refused(10, node);
     }
@@ -182,7 +182,7 @@ fn check_ids(s: &[u8], node: usize, end: usize) -> Counts
     if end - node < 3 {
         return Counts::Refused(8, node);
     }
-    let count = at8(s, node + 2);
+    let count = number_at(s, node + 2);
     if end - node - 3 < count {
         return Counts::Refused(8, node);
     }

@@ -7,7 +7,7 @@ ghost use Rattle.node_tests.specs.Tests.{tag_kind, tag_holds, tag_test_holds, re
 
 use attribute_matcher::AttributeMatcher;
 use cells::numbers::i32_at;
-use cells::{at8, get8, part_of};
+use cells::{get, number_at, part_of};
 use names::same_name;
 use nth::nth;
 use operators::Operator;
@@ -39,13 +39,13 @@ pub fn tag_test(test: &[u8], name: &[u8], child: u32, of_type: u32) -> bool
     ensures { result ≡ tag_test_holds name.now child of_type (read_tag_test test.now) }
 {
     let holds = tag_kind(
-        get8(test, 0),
+        get(test, 0),
         part_of(test, 2, test.len()),
         name,
         child,
         of_type,
     );
-    if get8(test, 1) == 0 {
+    if get(test, 1) == 0 {
         return holds;
     }
     !holds
@@ -89,10 +89,10 @@ pub fn operator_of(kind: u8) -> Operator
 pub fn compare_attribute(kind: u8, body: &[u8], input: &[u8], outlines: &[u32], html: bool) -> bool
     ensures { result ≡ attribute_holds html (attributes_of input.now outlines.now) (comparison (operator_of kind) body.now) }
 {
-    let end = 2 + at8(body, 1);
+    let end = 2 + number_at(body, 1);
     let name = part_of(body, 2, end);
     let operand = part_of(body, end, body.len());
-    let f = to_unconditional(get8(body, 0), html);
+    let f = to_unconditional(get(body, 0), html);
     value_matches(input, outlines, name, true, operator_of(kind), operand, f)
 }
 
@@ -131,13 +131,13 @@ pub fn attribute_test_holds(input: &[u8], outlines: &[u32], html: bool, test: &[
     ensures { result ≡ attribute_test_holds html (attributes_of input.now outlines.now) (read_attribute_test test.now) }
 {
     let holds = attribute_kind(
-        get8(test, 0),
+        get(test, 0),
         part_of(test, 2, test.len()),
         input,
         outlines,
         html,
     );
-    if get8(test, 1) == 0 {
+    if get(test, 1) == 0 {
         return holds;
     }
     !holds

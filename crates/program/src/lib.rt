@@ -10,17 +10,17 @@ ghost use Rattle.sheet.specs.Spelling.{TestsInside, Inside};
 ghost use Rattle.program.specs.Program.{test_key, node_key, words, row, any_of_type, instruction_at};
 
 use cells::numbers::u16_at;
-use cells::{at8, part_of, put32};
+use cells::{number_at, part_of, put};
 use names::name_key;
 
 // The name key of one test: its name's if it is a local name, not negated.
 fn test_key(test: &[u8]) -> u32
     ensures { result ≡ test_key (read_tag_test test.now) }
 {
-    if at8(test, 0) != 3 {
+    if number_at(test, 0) != 3 {
         return 0;
     }
-    if at8(test, 1) != 0 {
+    if number_at(test, 1) != 0 {
         return 0;
     }
     name_key(part_of(test, 2, test.len()))
@@ -41,7 +41,7 @@ fn node_key(s: &[u8], count: usize, at: usize) -> u32
 fn is_of_type(test: &[u8]) -> bool
     ensures { result ≡ of_type (read_tag_test test.now).test }
 {
-    at8(test, 0) == 5
+    number_at(test, 0) == 5
 }
 
 // Is a test of kind 5 among the `count` tests at `at`, which end before `end`?
@@ -76,7 +76,7 @@ pub fn links_at(s: &[u8], at: usize) -> Links
     ensures children_value { result.children ≡ child_count s.now at }
     ensures descendants_value { result.descendants ≡ descendant_count s.now at }
 {
-    let counts = at + 3 + at8(s, at + 2);
+    let counts = at + 3 + number_at(s, at + 2);
     Links {
         next: at + 2 + u16_at(s, at),
         children: u16_at(s, counts + 2),
@@ -106,14 +106,14 @@ fn put_row(
     ensures { store.new ≡ sets store.old (slot * 8) (words place test counts children.first children.count descendants.first descendants.count key) }
 {
     let at = slot * 8;
-    put32(store, at, place);
-    put32(store, at + 1, test);
-    put32(store, at + 2, counts);
-    put32(store, at + 3, children.first);
-    put32(store, at + 4, children.count);
-    put32(store, at + 5, descendants.first);
-    put32(store, at + 6, descendants.count);
-    put32(store, at + 7, key);
+    put(store, at, place);
+    put(store, at + 1, test);
+    put(store, at + 2, counts);
+    put(store, at + 3, children.first);
+    put(store, at + 4, children.count);
+    put(store, at + 5, descendants.first);
+    put(store, at + 6, descendants.count);
+    put(store, at + 7, key);
 }
 
 /// Writes the instruction of the record at `at`, whose blocks begin at two addresses.
@@ -129,9 +129,9 @@ pub fn put_instruction(
     requires slot_bound { (slot ≤ 1024) × ((children ≤ 1024) × (descendants ≤ 1024)) }
     ensures { store.new ≡ sets store.old (slot * 8) (row (instruction_at s.now at children descendants)) }
 {
-    let counts = at + 3 + at8(s, at + 2);
-    let tags = at8(s, counts);
-    let attributes = at8(s, counts + 1);
+    let counts = at + 3 + number_at(s, at + 2);
+    let tags = number_at(s, counts);
+    let attributes = number_at(s, counts + 1);
     let tests = counts + 6;
     let key = node_key(s, tags, tests);
     let child_range = AddressRange {

@@ -7,7 +7,7 @@ use native.Mathlib.Omega.{arith}
 use borrow.Author.Tests.{lt-ltb, le-ltb, ne_eqb}
 use lib.ListN.{length, get_or, set}
 use Rattle.cells.specs.Numbers.{be16, be32}
-use Rattle.cells.specs.Stretches.{written, cells_from, cells-above}
+use Rattle.cells.specs.Stretches.{cells_or, written, cells_from, cells-above}
 use Rattle.attribute_records.specs.AttributeRecords.{Read, read, attributes_of}
 use Rattle.attribute_records.specs.declared.Record.{Record}
 use Rattle.records.specs.Records.{record_end, start_of, record_of}
@@ -62,7 +62,7 @@ length-said s n e h = simp (← e, le-ltb _ _ h)
 -- ---- bytes moved to the front: the next one, and those behind it stay
 
 pub keep-more : (s : List ℕ) (at i m : ℕ) → 0 < m → written s i (cells_from s (at + i) m) ≡ written (set s i (get_or s (at + i) 0)) (i + 1) (cells_from (set s i (get_or s (at + i) 0)) (at + (i + 1)) (m - 1))
-unfolding written cells_from
+unfolding written cells_or
 keep-more s at i zero h = absurd (omega arith)
 keep-more s at i (suc m) h =
     let e : at + i + 1 ≡ at + (i + 1) = omega arith in
@@ -72,6 +72,6 @@ pub keep-start : (s : List ℕ) (at n : ℕ) → written s 0 (cells_from s at n)
 keep-start s at n = let e : at + 0 ≡ at = omega arith in let f : n - 0 ≡ n = omega arith in rw (e, f)
 
 pub keep_all : (s : List ℕ) (at i m : ℕ) → m ≤ 0 → written s i (cells_from s at m) ≡ s
-unfolding written cells_from
+unfolding written cells_or
 keep_all s at i zero h = refl
 keep_all s at i (suc m) h = absurd (omega arith)

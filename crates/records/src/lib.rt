@@ -9,7 +9,7 @@ ghost use Rattle.records.specs.Sheets.{sheet_length, sheet_end};
 
 use attribute_records::{Record, attributes_of};
 use cells::numbers::{u16_at, u32_at};
-use cells::{at8, get8};
+use cells::{get, number_at};
 
 // Where a record ends, if all of it is there.
 #[derive(Clone, Copy)]
@@ -56,7 +56,7 @@ fn start_of(body: &[u8]) -> Record
     if body.len() < 2 {
         return Record::Faulty;
     }
-    Record::Start(get8(body, 1) as u32)
+    Record::Start(get(body, 1) as u32)
 }
 
 // What a body says. The outlines are places in the body: name start, name end, value start, value end of each attribute.
@@ -64,7 +64,7 @@ pub fn record_of(body: &[u8], outlines: &mut [u32]) -> Record
     ensures outlines_after { read result outlines.new ≡ record_of body.now outlines.old }
     ensures fits { Fits result }
 {
-    let kind = at8(body, 0);
+    let kind = number_at(body, 0);
     if kind == 1 {
         return start_of(body);
     }

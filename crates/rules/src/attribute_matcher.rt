@@ -4,7 +4,7 @@ ghost use Rattle.letters.specs.Bytes.{fold};
 ghost use Rattle.rules.specs.Attributes.{lies_within, well_formed, good_outlines, find_in, lookup, attributes_of, is_there};
 ghost use Rattle.operators.specs.Operators.{value_holds};
 
-use cells::{at32, part_of};
+use cells::{number_at, part_of};
 use letters::same;
 use operators::{Operator, compare};
 
@@ -34,10 +34,10 @@ pub fn well_formed(size: usize, outlines: &[u32]) -> bool
         if outlines.len() - i < 4 {
             return false;
         }
-        if !lies_within(size, at32(outlines, i), at32(outlines, i + 1)) {
+        if !lies_within(size, number_at(outlines, i), number_at(outlines, i + 1)) {
             return false;
         }
-        if !lies_within(size, at32(outlines, i + 2), at32(outlines, i + 3)) {
+        if !lies_within(size, number_at(outlines, i + 2), number_at(outlines, i + 3)) {
             return false;
         }
         i += 4;
@@ -67,9 +67,9 @@ pub fn find(input: &[u8], outlines: &[u32], name: &[u8], ignore: bool) -> Found
         if outlines.len() - i < 4 {
             return Found::Nothing;
         }
-        let candidate = part_of(input, at32(outlines, i), at32(outlines, i + 1));
+        let candidate = part_of(input, number_at(outlines, i), number_at(outlines, i + 1));
         if same(candidate, true, name, ignore) {
-            return Found::At(at32(outlines, i + 2), at32(outlines, i + 3));
+            return Found::At(number_at(outlines, i + 2), number_at(outlines, i + 3));
         }
         i += 4;
     }

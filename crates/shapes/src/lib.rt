@@ -6,18 +6,18 @@ ghost use Rattle.stack.specs.Stores.{stores};
 ghost use Rattle.shapes.specs.Shapes.{esi_on, types_counted, sized, header_shaped, shaped, state_refusal};
 
 use cells::numbers::u16_at;
-use cells::{at32, get32};
+use cells::{get, number_at};
 
 pub fn is_esi_on(rows: &[u32]) -> bool
     ensures { result ≡ esi_on rows.now }
 {
-    get32(rows, 14) % 2 == 1
+    get(rows, 14) % 2 == 1
 }
 
 pub fn counts_types(rows: &[u32]) -> bool
     ensures { result ≡ types_counted rows.now }
 {
-    get32(rows, 14) / 2 % 2 == 1
+    get(rows, 14) / 2 % 2 == 1
 }
 
 // 31: whether every store has at least its size.
@@ -40,38 +40,38 @@ pub fn is_sized(rows: &[u32], names: &[u8], ids: &[u64], nodes: &[u16]) -> bool
 fn is_header_shaped(rows: &[u32], count: usize) -> bool
     ensures { result ≡ header_shaped rows.now count }
 {
-    if 256 < at32(rows, 0) {
+    if 256 < number_at(rows, 0) {
         return false;
     }
-    if 4096 < at32(rows, 1) {
+    if 4096 < number_at(rows, 1) {
         return false;
     }
-    if 1024 < at32(rows, 2) {
+    if 1024 < number_at(rows, 2) {
         return false;
     }
-    if 512 < at32(rows, 3) {
+    if 512 < number_at(rows, 3) {
         return false;
     }
-    if 1 < at32(rows, 4) {
+    if 1 < number_at(rows, 4) {
         return false;
     }
-    if 63 < at32(rows, 5) {
+    if 63 < number_at(rows, 5) {
         return false;
     }
-    if count < at32(rows, 7) {
+    if count < number_at(rows, 7) {
         return false;
     }
-    at32(rows, 14) <= 3
+    number_at(rows, 14) <= 3
 }
 
 // 30: whether the lent sheet, instructions and header keep the shape rules.
 pub fn is_shaped(sheet: &[u8], program: &[u32], rows: &[u32]) -> bool
     ensures { result ≡ shaped sheet.now program.now rows.now }
 {
-    if at32(rows, 12) != 1383429737 {
+    if number_at(rows, 12) != 1383429737 {
         return false;
     }
-    if at32(rows, 13) != sheet.len() {
+    if number_at(rows, 13) != sheet.len() {
         return false;
     }
     let count = u16_at(sheet, 5);

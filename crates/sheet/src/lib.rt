@@ -5,7 +5,7 @@ ghost use Rattle.std.specs.Prelude.{◌≡◌, ◌≤◌, length};
 ghost use Rattle.meaning.specs.Trees.{size};
 ghost use Rattle.sheet.specs.Parser.{walk_of, tree_size, tree_at, parse_trees, checked_of, parse_sheet};
 
-use cells::at8;
+use cells::number_at;
 use cells::numbers::{u16_at, u32_at};
 use node_records::{Counts, check_record};
 
@@ -82,7 +82,7 @@ pub fn check_sheet(s: &[u8]) -> Checked
     if 65536 < s.len() {
         return Checked::Refused(2, 0);
     }
-    if at8(s, 0) != 1 {
+    if number_at(s, 0) != 1 {
         return Checked::Refused(3, 0);
     }
     if u32_at(s, 1) != s.len() {

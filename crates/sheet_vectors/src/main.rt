@@ -4,7 +4,7 @@
 
 ghost use Rattle.std.specs.Prelude.{◌≡◌, length};
 
-use cells::at8;
+use cells::number_at;
 use cells::numbers::{u16_at, u32_at};
 use compiler::{Compiled, compile};
 use sheet::{Checked, check_sheet};
@@ -117,7 +117,7 @@ fn replay<R: Read>(reader: &mut R, sheet: &mut [u8], store: &mut [u32]) -> Resul
     Ok(judge(
         &sheet[0..n],
         &mut store[0..end],
-        at8(&head, 6),
+        number_at(&head, 6),
         u32_at(&head, 7),
     ))
 }

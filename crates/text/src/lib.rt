@@ -4,7 +4,7 @@
 ghost use Rattle.std.specs.Prelude.{◌≡◌, ◌+◌, ◌≤◌, length};
 ghost use Rattle.text.specs.Text.{digits, decimal, Wrote};
 
-use cells::put8;
+use cells::put;
 
 pub fn put_text(out: &mut [u8], at: usize, text: &[u8]) -> usize
     requires { (at ≤ 8589934592) × (length text.now ≤ 65536) }
@@ -12,7 +12,7 @@ pub fn put_text(out: &mut [u8], at: usize, text: &[u8]) -> usize
 {
     let mut i = 0;
     while i < text.len() {
-        put8(out, at + i, text[i]);
+        put(out, at + i, text[i]);
         i += 1;
     }
     at + i
@@ -27,11 +27,11 @@ fn put_digits(out: &mut [u8], at: usize, k: usize, n: u64) -> usize
         return at;
     }
     if n < 10 {
-        put8(out, at, 48 + (n % 10) as u8);
+        put(out, at, 48 + (n % 10) as u8);
         return at + 1;
     }
     let next = put_digits(out, at, k - 1, n / 10);
-    put8(out, next, 48 + (n % 10) as u8);
+    put(out, next, 48 + (n % 10) as u8);
     next + 1
 }
 

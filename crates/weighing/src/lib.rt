@@ -8,7 +8,7 @@ ghost use Rattle.weighing.specs.Weighing.{is_bad_name, tag_refusal, pairs_full, 
 ghost use Rattle.weighing.specs.Words.{cell};
 
 use cells::numbers::u16_at;
-use cells::{at32, put8};
+use cells::{number_at, put};
 use counters::{child_count, is_known};
 use letters::lower;
 use rules::attribute_matcher::good_outlines;
@@ -30,7 +30,7 @@ pub fn lower_into(name: &[u8], out: &mut [u8])
 {
     let mut i = 0;
     while i < name.len() {
-        put8(out, i, lower(name[i]));
+        put(out, i, lower(name[i]));
         i += 1;
     }
 }
@@ -39,7 +39,7 @@ pub fn lower_into(name: &[u8], out: &mut [u8])
 pub fn tag_refusal(rows: &[u32], namespace: u32, name: &[u8]) -> u32
     ensures { result ≡ tag_refusal rows.now namespace name.now }
 {
-    if at32(rows, 4) != 0 {
+    if number_at(rows, 4) != 0 {
         return 22;
     }
     if is_bad_name(name) {
@@ -61,7 +61,7 @@ pub fn are_pairs_full(rows: &[u32], names: &[u8], name: &[u8]) -> bool
     if !counts_types(rows) {
         return false;
     }
-    if at32(rows, 3) < 512 {
+    if number_at(rows, 3) < 512 {
         return false;
     }
     !is_known(rows, names, name)
@@ -80,10 +80,10 @@ pub fn push_refusal(
     if !content {
         return 0;
     }
-    if 256 <= at32(rows, 0) {
+    if 256 <= number_at(rows, 0) {
         return 27;
     }
-    if 4096 < at32(rows, 1) + count_parents(program, u16_at(sheet, 5), found) {
+    if 4096 < number_at(rows, 1) + count_parents(program, u16_at(sheet, 5), found) {
         return 28;
     }
     0
@@ -93,7 +93,7 @@ pub fn push_refusal(
 pub fn attributes_refusal(rows: &[u32], input: &[u8], outlines: &[u32]) -> u32
     ensures { result ≡ attributes_refusal rows.now input.now outlines.now }
 {
-    if at32(rows, 4) == 0 {
+    if number_at(rows, 4) == 0 {
         return 23;
     }
     if !good_outlines(input, outlines) {
@@ -106,7 +106,7 @@ pub fn attributes_refusal(rows: &[u32], input: &[u8], outlines: &[u32]) -> u32
 pub fn end_refusal(rows: &[u32], name: &[u8]) -> u32
     ensures { result ≡ end_refusal rows.now name.now }
 {
-    if at32(rows, 4) != 0 {
+    if number_at(rows, 4) != 0 {
         return 22;
     }
     if is_bad_name(name) {

@@ -6,7 +6,7 @@ pub returns-then-body-at : goal.returns-then-body-at
 returns-then-body-at c = attribute-none _ _ _ _ (omega arith)
 
 pub returns-then-body-value_end : goal.returns-then-body-value_end
-returns-then-body-value_end c = attribute-cut _ _ _ _ _ c.at8.ensures.0 _ c.u16_at.ensures.0 (omega arith)
+returns-then-body-value_end c = attribute-cut _ _ _ _ _ c.number_at.ensures.0 _ c.u16_at.ensures.0 (omega arith)
 
 pub returns : goal.returns
-returns c = attribute-whole _ _ _ _ _ c.at8.ensures.0 _ c.u16_at.ensures.0 (omega arith) _ _ _ _ c.put32.ensures c.put32-2.ensures c.put32-3.ensures c.put32-4.ensures
+returns c = attribute-whole _ _ _ _ _ c.number_at.ensures.0 _ c.u16_at.ensures.0 (omega arith) _ _ _ _ c.put.ensures c.put-2.ensures c.put-3.ensures c.put-4.ensures

@@ -27,13 +27,13 @@ pub overflow_add-counts-in-loop-left-2 : goal.overflow_add-counts-in-loop-left-2
 overflow_add-counts-in-loop-left-2 c = let t = records-first c.args.s.now c.loop-left.left c.loop-left.here (omega arith) c.loop-left.invariant.0 in let te = t.0.ends in let tn = t.0.numbers in omega arith
 
 pub any_of_type-requires : goal.any_of_type-requires
-any_of_type-requires c = let t = records-first c.args.s.now c.loop-left.left c.loop-left.here (omega arith) c.loop-left.invariant.0 in let te = t.0.ends in let tn = t.0.numbers in ((omega arith), tags-inside c.args.s.now c.loop-left.here t.0 c.u16_at.ensures.0 c.at8.ensures.0 c.at8-in-loop-left.ensures.0)
+any_of_type-requires c = let t = records-first c.args.s.now c.loop-left.left c.loop-left.here (omega arith) c.loop-left.invariant.0 in let te = t.0.ends in let tn = t.0.numbers in ((omega arith), tags-inside c.args.s.now c.loop-left.here t.0 c.u16_at.ensures.0 c.number_at.ensures.0 c.number_at-in-loop-left.ensures.0)
 
 pub returns-then-any_of_type : goal.returns-then-any_of_type
-returns-then-any_of_type c = sym (c.loop-left.invariant.1 ∙ records-found c.args.s.now c.loop-left.here c.at8.ensures.0 c.at8-in-loop-left.ensures.0 c.any_of_type.ensures c.loop-left.left (omega arith) c.if-any_of_type.true)
+returns-then-any_of_type c = sym (c.loop-left.invariant.1 ∙ records-found c.args.s.now c.loop-left.here c.number_at.ensures.0 c.number_at-in-loop-left.ensures.0 c.any_of_type.ensures c.loop-left.left (omega arith) c.if-any_of_type.true)
 
 pub loop-left-preserved : goal.loop-left-preserved
-loop-left-preserved c = (let t = records-first c.args.s.now c.loop-left.left c.loop-left.here (omega arith) c.loop-left.invariant.0 in let te = t.0.ends in let tn = t.0.numbers in rw c.u16_at.ensures.0 t.1, c.loop-left.invariant.1 ∙ records-more c.args.s.now c.loop-left.here c.at8.ensures.0 c.at8-in-loop-left.ensures.0 c.any_of_type.ensures c.loop-left.left (omega arith) c.if-any_of_type.false ∙ ap (λ (x : ℕ). records_use c.args.s.now (c.loop-left.left - 1) (c.loop-left.here + 2 + x)) (sym c.u16_at.ensures.0))
+loop-left-preserved c = (let t = records-first c.args.s.now c.loop-left.left c.loop-left.here (omega arith) c.loop-left.invariant.0 in let te = t.0.ends in let tn = t.0.numbers in rw c.u16_at.ensures.0 t.1, c.loop-left.invariant.1 ∙ records-more c.args.s.now c.loop-left.here c.number_at.ensures.0 c.number_at-in-loop-left.ensures.0 c.any_of_type.ensures c.loop-left.left (omega arith) c.if-any_of_type.false ∙ ap (λ (x : ℕ). records_use c.args.s.now (c.loop-left.left - 1) (c.loop-left.here + 2 + x)) (sym c.u16_at.ensures.0))
 
 pub returns : goal.returns
 returns c = sym (c.loop-left.invariant.1 ∙ records-none c.args.s.now c.loop-left.left c.loop-left.here (omega arith))

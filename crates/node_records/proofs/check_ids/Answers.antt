@@ -12,7 +12,7 @@ pub returns-then-end-node : goal.returns-then-end-node
 returns-then-end-node c = ids-past _ _ _ (omega arith) (omega arith)
 
 pub returns-then-not-ids_rise : goal.returns-then-not-ids_rise
-returns-then-not-ids_rise c = ids-wrong _ _ _ (omega arith) (omega arith) _ c.at8-count.ensures.0 _ c.part_of.ensures _ c.ids_rise.ensures (ap not c.if-not-ids_rise.true)
+returns-then-not-ids_rise c = ids-wrong _ _ _ (omega arith) (omega arith) _ c.number_at-count.ensures.0 _ c.part_of.ensures _ c.ids_rise.ensures (ap not c.if-not-ids_rise.true)
 
 pub returns : goal.returns
-returns c = c.check_counts.ensures ∙ ids-right _ _ _ (omega arith) (omega arith) _ c.at8-count.ensures.0 _ c.part_of.ensures _ c.ids_rise.ensures (ap not c.if-not-ids_rise.false)
+returns c = c.check_counts.ensures ∙ ids-right _ _ _ (omega arith) (omega arith) _ c.number_at-count.ensures.0 _ c.part_of.ensures _ c.ids_rise.ensures (ap not c.if-not-ids_rise.false)

@@ -13,7 +13,7 @@ pub returns-then-id-gt127 : goal.returns-then-id-gt127
 returns-then-id-gt127 c = sym (c.loop-i.invariant ∙ rising-high c.args.ids.now c.loop-i.i _ (omega arith) (omega arith) (omega arith))
 
 pub loop-i-preserved : goal.loop-i-preserved
-loop-i-preserved c = c.loop-i.invariant ∙ rising-more c.args.ids.now c.loop-i.i _ (omega arith) (omega arith) (omega arith) _ c.at8-id.ensures.0
+loop-i-preserved c = c.loop-i.invariant ∙ rising-more c.args.ids.now c.loop-i.i _ (omega arith) (omega arith) (omega arith) _ c.number_at-id.ensures.0
 
 pub returns : goal.returns
 returns c = sym (c.loop-i.invariant ∙ rising-all c.args.ids.now c.loop-i.i _ (omega arith))

@@ -2,9 +2,9 @@ use Rattle.node_tests.specs.Tests.{comparison, attribute_holds}
 use borrow.Author.Rules.{rules}
 use Rattle.node_tests.proofs.compare_attribute.Goals as goal
 
-pub at8-end-requires : goal.at8-end-requires
+pub number_at-end-requires : goal.number_at-end-requires
 unfolding comparison attribute_holds
-at8-end-requires c = search rules
+number_at-end-requires c = search rules
 
 pub part_of-name-requires : goal.part_of-name-requires
 unfolding comparison attribute_holds
@@ -14,9 +14,9 @@ pub part_of-operand-requires : goal.part_of-operand-requires
 unfolding comparison attribute_holds
 part_of-operand-requires c = search rules
 
-pub get8-requires : goal.get8-requires
+pub get-requires : goal.get-requires
 unfolding comparison attribute_holds
-get8-requires c = search rules
+get-requires c = search rules
 
 pub to_unconditional-f-requires : goal.to_unconditional-f-requires
 unfolding comparison attribute_holds
@@ -32,4 +32,4 @@ value_matches-requires c = search rules
 
 pub returns : goal.returns
 unfolding comparison attribute_holds
-returns c = rw (← c.at8-end.ensures.0, ← c.part_of-name.ensures, ← c.part_of-operand.ensures, ← c.get8.ensures, ← c.to_unconditional-f.ensures, ← c.operator_of.ensures) c.value_matches.ensures
+returns c = rw (← c.number_at-end.ensures.0, ← c.part_of-name.ensures, ← c.part_of-operand.ensures, ← c.get.ensures, ← c.to_unconditional-f.ensures, ← c.operator_of.ensures) c.value_matches.ensures

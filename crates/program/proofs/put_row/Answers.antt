@@ -3,4 +3,4 @@ use Rattle.program.proofs.RowLaws.{row_put}
 use Rattle.program.proofs.put_row.Goals as goal
 
 pub returns : goal.returns
-returns c = row_put c.args.store.now (c.args.slot * 8) _ _ _ _ _ _ _ _ _ _ _ _ _ _ _ _ c.put32.ensures c.put32-2.ensures c.put32-3.ensures c.put32-4.ensures c.put32-5.ensures c.put32-6.ensures c.put32-7.ensures c.put32-8.ensures
+returns c = row_put c.args.store.now (c.args.slot * 8) _ _ _ _ _ _ _ _ _ _ _ _ _ _ _ _ c.put.ensures c.put-2.ensures c.put-3.ensures c.put-4.ensures c.put-5.ensures c.put-6.ensures c.put-7.ensures c.put-8.ensures

@@ -10,4 +10,4 @@ returns-then-body-lt2 c = record { value = simp (lt-ltb _ _ c.if-body-lt2.true);
 
 pub returns : goal.returns
 unfolding start_of
-returns c = record { value = simp (le-ltb _ _ c.if-body-lt2.false) (ap Record.Start c.get8.ensures); fits = tt }
+returns c = record { value = simp (le-ltb _ _ c.if-body-lt2.false) (ap Record.Start c.get.ensures); fits = tt }

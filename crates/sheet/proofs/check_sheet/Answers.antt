@@ -9,8 +9,8 @@ returns-then-s-lt9 c = short _ (omega arith)
 pub returns-then-s-gt65536 : goal.returns-then-s-gt65536
 returns-then-s-gt65536 c = long _ (omega arith) (omega arith)
 
-pub returns-then-at8-ne1 : goal.returns-then-at8-ne1
-returns-then-at8-ne1 c = version _ (omega arith) (omega arith) (λ h. omega arith)
+pub returns-then-number_at-ne1 : goal.returns-then-number_at-ne1
+returns-then-number_at-ne1 c = version _ (omega arith) (omega arith) (λ h. omega arith)
 
 pub returns-then-u32_at-s : goal.returns-then-u32_at-s
 returns-then-u32_at-s c = field _ (omega arith) (omega arith) (omega arith) (λ h. omega arith)

@@ -4,14 +4,14 @@ use Rattle.shapes.proofs.Steps.{is, is-not}
 use Rattle.weighing.specs.Weighing.{attributes_refusal}
 use Rattle.weighing.proofs.attributes_refusal.Goals as goal
 
-pub returns-then-at32-eq0 : goal.returns-then-at32-eq0
+pub returns-then-number_at-eq0 : goal.returns-then-number_at-eq0
 unfolding attributes_refusal
-returns-then-at32-eq0 c = simp (is _ _ _ c.at32.ensures.0 c.if-at32-eq0.true)
+returns-then-number_at-eq0 c = simp (is _ _ _ c.number_at.ensures.0 c.if-number_at-eq0.true)
 
 pub returns-then-not-good_outlines : goal.returns-then-not-good_outlines
 unfolding attributes_refusal
-returns-then-not-good_outlines c = simp (is-not _ _ _ c.at32.ensures.0 c.if-at32-eq0.false, ← c.good_outlines.ensures, (ap not c.if-not-good_outlines.true))
+returns-then-not-good_outlines c = simp (is-not _ _ _ c.number_at.ensures.0 c.if-number_at-eq0.false, ← c.good_outlines.ensures, (ap not c.if-not-good_outlines.true))
 
 pub returns : goal.returns
 unfolding attributes_refusal
-returns c = simp (is-not _ _ _ c.at32.ensures.0 c.if-at32-eq0.false, ← c.good_outlines.ensures, (ap not c.if-not-good_outlines.false))
+returns c = simp (is-not _ _ _ c.number_at.ensures.0 c.if-number_at-eq0.false, ← c.good_outlines.ensures, (ap not c.if-not-good_outlines.false))

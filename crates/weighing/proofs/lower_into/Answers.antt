@@ -7,7 +7,7 @@ pub loop-i-init : goal.loop-i-init
 loop-i-init c = (refl, (omega arith, refl))
 
 pub loop-i-preserved : goal.loop-i-preserved
-loop-i-preserved c = (c.put8.auto.s ∙ c.loop-i.invariant.0, (omega arith, lower-more _ _ _ _ c.loop-i.invariant.1.1 _ _ c.loop-i-test.true c.lower.ensures c.put8.ensures))
+loop-i-preserved c = (c.put.auto.s ∙ c.loop-i.invariant.0, (omega arith, lower-more _ _ _ _ c.loop-i.invariant.1.1 _ _ c.loop-i-test.true c.lower.ensures c.put.ensures))
 
 pub shape_of-out : goal.shape_of-out
 shape_of-out c = c.loop-i.invariant.0

@@ -9,14 +9,14 @@ pub returns-then-not-content : goal.returns-then-not-content
 unfolding push_refusal
 returns-then-not-content c = simp (ap not c.if-not-content.true)
 
-pub returns-then-at32-ge256 : goal.returns-then-at32-ge256
+pub returns-then-number_at-ge256 : goal.returns-then-number_at-ge256
 unfolding push_refusal
-returns-then-at32-ge256 c = simp (c.if-not-content.false, reached _ _ _ c.at32.ensures.0 c.if-at32-ge256.true)
+returns-then-number_at-ge256 c = simp (c.if-not-content.false, reached _ _ _ c.number_at.ensures.0 c.if-number_at-ge256.true)
 
-pub returns-then-at32-count_parents-gt4096 : goal.returns-then-at32-count_parents-gt4096
+pub returns-then-number_at-count_parents-gt4096 : goal.returns-then-number_at-count_parents-gt4096
 unfolding push_refusal
-returns-then-at32-count_parents-gt4096 c = simp (c.if-not-content.false, not-reached _ _ _ c.at32.ensures.0 c.if-at32-ge256.false, too_many _ _ _ _ _ _ _ c.at32-2.ensures.0 c.u16_at.ensures.0 c.count_parents.ensures.0 c.if-at32-count_parents-gt4096.true)
+returns-then-number_at-count_parents-gt4096 c = simp (c.if-not-content.false, not-reached _ _ _ c.number_at.ensures.0 c.if-number_at-ge256.false, too_many _ _ _ _ _ _ _ c.number_at-2.ensures.0 c.u16_at.ensures.0 c.count_parents.ensures.0 c.if-number_at-count_parents-gt4096.true)
 
 pub returns : goal.returns
 unfolding push_refusal
-returns c = simp (c.if-not-content.false, not-reached _ _ _ c.at32.ensures.0 c.if-at32-ge256.false, few-enough _ _ _ _ _ _ _ c.at32-2.ensures.0 c.u16_at.ensures.0 c.count_parents.ensures.0 c.if-at32-count_parents-gt4096.false)
+returns c = simp (c.if-not-content.false, not-reached _ _ _ c.number_at.ensures.0 c.if-number_at-ge256.false, few-enough _ _ _ _ _ _ _ c.number_at-2.ensures.0 c.u16_at.ensures.0 c.count_parents.ensures.0 c.if-number_at-count_parents-gt4096.false)

@@ -20,7 +20,7 @@ pub loop-d-smaller-then-attributes_pass : goal.loop-d-smaller-then-attributes_pa
 loop-d-smaller-then-attributes_pass c = let r = reached-at _ _ _ _ _ _ _ _ _ _ _ _ c.next_live.ensures c.in-At.is in let z = r.less in z
 
 pub loop-d-preserved-then-attributes_pass : goal.loop-d-preserved-then-attributes_pass
-loop-d-preserved-then-attributes_pass c = let r = reached-at _ _ _ _ _ _ _ _ _ _ _ _ c.next_live.ensures c.in-At.is in let z = r.less in (omega arith, (omega arith, adds_one _ _ _ _ _ _ c.loop-d.invariant.1.1 _ _ _ (all-find _ _ _ _ _ _ _ _ _ _ _ _ _ _ _ _ r _ c.tag_tests_pass.ensures _ c.next-c.ensures _ c.attributes_pass.ensures c.if-tag_tests_pass.true c.if-attributes_pass.true) c.put16.ensures))
+loop-d-preserved-then-attributes_pass c = let r = reached-at _ _ _ _ _ _ _ _ _ _ _ _ c.next_live.ensures c.in-At.is in let z = r.less in (omega arith, (omega arith, adds_one _ _ _ _ _ _ c.loop-d.invariant.1.1 _ _ _ (all-find _ _ _ _ _ _ _ _ _ _ _ _ _ _ _ _ r _ c.tag_tests_pass.ensures _ c.next-c.ensures _ c.attributes_pass.ensures c.if-tag_tests_pass.true c.if-attributes_pass.true) c.put.ensures))
 
 pub loop-d-smaller-else-attributes_pass : goal.loop-d-smaller-else-attributes_pass
 loop-d-smaller-else-attributes_pass c = let r = reached-at _ _ _ _ _ _ _ _ _ _ _ _ c.next_live.ensures c.in-At.is in let z = r.less in z

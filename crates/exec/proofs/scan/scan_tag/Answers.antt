@@ -23,7 +23,7 @@ pub loop-d-smaller-then-tag_tests_pass : goal.loop-d-smaller-then-tag_tests_pass
 loop-d-smaller-then-tag_tests_pass c = let r = reached-at _ _ _ _ _ _ _ _ _ _ _ _ c.next_live.ensures c.in-At.is in let z = r.less in z
 
 pub loop-d-preserved-then-tag_tests_pass : goal.loop-d-preserved-then-tag_tests_pass
-loop-d-preserved-then-tag_tests_pass c = let r = reached-at _ _ _ _ _ _ _ _ _ _ _ _ c.next_live.ensures c.in-At.is in let z = r.less in (omega arith, (omega arith, goes-found _ _ _ _ _ c.loop-d.invariant.1.1 _ _ _ (tag-finds _ _ _ _ _ _ _ _ _ _ _ _ _ _ r _ c.tag_tests_pass.ensures _ c.next-c.ensures _ c.asks_attributes.ensures c.if-tag_tests_pass.true c.if-asks_attributes.false) c.put16.ensures))
+loop-d-preserved-then-tag_tests_pass c = let r = reached-at _ _ _ _ _ _ _ _ _ _ _ _ c.next_live.ensures c.in-At.is in let z = r.less in (omega arith, (omega arith, goes-found _ _ _ _ _ c.loop-d.invariant.1.1 _ _ _ (tag-finds _ _ _ _ _ _ _ _ _ _ _ _ _ _ r _ c.tag_tests_pass.ensures _ c.next-c.ensures _ c.asks_attributes.ensures c.if-tag_tests_pass.true c.if-asks_attributes.false) c.put.ensures))
 
 pub loop-d-smaller : goal.loop-d-smaller
 loop-d-smaller c = let r = reached-at _ _ _ _ _ _ _ _ _ _ _ _ c.next_live.ensures c.in-At.is in let z = r.less in z

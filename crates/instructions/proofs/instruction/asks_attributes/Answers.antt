@@ -3,4 +3,4 @@ use Rattle.instructions.proofs.instruction.asks_attributes.Goals as goal
 
 pub returns : goal.returns
 unfolding asks
-returns c = rw (← c.at32-counts.ensures.0)
+returns c = rw (← c.number_at-counts.ensures.0)

@@ -10,10 +10,10 @@ pub returns-then-outlines-i-lt4 : goal.returns-then-outlines-i-lt4
 returns-then-outlines-i-lt4 c = sym (c.loop-i.invariant.1 ∙ found-short _ _ _ c.loop-i.i c.if-outlines-i-lt4.true)
 
 pub returns-then-same : goal.returns-then-same
-returns-then-same c = sym (c.loop-i.invariant.1 ∙ found-step _ _ _ c.loop-i.i (omega arith) ∙ rw (named _ _ _ _ _ _ _ _ _ c.at32.ensures c.at32-in-loop-i.ensures c.part_of-candidate.ensures c.same.ensures ∙ c.if-same.true, c.at32-then-same.ensures.0, c.at32-then-same-2.ensures.0))
+returns-then-same c = sym (c.loop-i.invariant.1 ∙ found-step _ _ _ c.loop-i.i (omega arith) ∙ rw (named _ _ _ _ _ _ _ _ _ c.number_at.ensures c.number_at-in-loop-i.ensures c.part_of-candidate.ensures c.same.ensures ∙ c.if-same.true, c.number_at-then-same.ensures.0, c.number_at-then-same-2.ensures.0))
 
 pub loop-i-preserved : goal.loop-i-preserved
-loop-i-preserved c = (omega arith, c.loop-i.invariant.1 ∙ found-step _ _ _ c.loop-i.i (omega arith) ∙ rw (named _ _ _ _ _ _ _ _ _ c.at32.ensures c.at32-in-loop-i.ensures c.part_of-candidate.ensures c.same.ensures ∙ c.if-same.false))
+loop-i-preserved c = (omega arith, c.loop-i.invariant.1 ∙ found-step _ _ _ c.loop-i.i (omega arith) ∙ rw (named _ _ _ _ _ _ _ _ _ c.number_at.ensures c.number_at-in-loop-i.ensures c.part_of-candidate.ensures c.same.ensures ∙ c.if-same.false))
 
 pub returns : goal.returns
 returns c = sym (c.loop-i.invariant.1 ∙ found-short _ _ _ c.loop-i.i (omega arith))
