@@ -5,7 +5,7 @@ ghost use Rattle.std.specs.Prelude.{◌≡◌, ◌≤◌, length, IfSome};
 ghost use Rattle.attribute_records.specs.AttributeRecords.{read, read_attribute, attributes_of, stepped, Fits};
 
 use cells::numbers::u16_at;
-use cells::{at8, put32};
+use cells::{number_at, put};
 
 // What a record says. A start tag has its name from byte 2 of the body on; an end tag has its name from byte 1 on;
 // attributes have the self-closing mark and how many numbers their outlines are.
@@ -26,16 +26,16 @@ fn read_attribute(body: &[u8], outlines: &mut [u32], slot: usize, at: usize) -> 
         return None;
     }
     let name = at + 1;
-    let name_end = name + at8(body, at);
+    let name_end = name + number_at(body, at);
     let value = name_end + 2;
     let value_end = value + u16_at(body, name_end);
     if body.len() < value_end {
         return None;
     }
-    put32(outlines, slot, name as u32);
-    put32(outlines, slot + 1, name_end as u32);
-    put32(outlines, slot + 2, value as u32);
-    put32(outlines, slot + 3, value_end as u32);
+    put(outlines, slot, name as u32);
+    put(outlines, slot + 1, name_end as u32);
+    put(outlines, slot + 2, value as u32);
+    put(outlines, slot + 3, value_end as u32);
     Some(value_end)
 }
 
@@ -48,11 +48,11 @@ pub fn attributes_of(body: &[u8], outlines: &mut [u32]) -> Option<Record>
     if body.len() < 3 || 65535 < body.len() {
         return None;
     }
-    let mark = at8(body, 1);
+    let mark = number_at(body, 1);
     if 1 < mark {
         return None;
     }
-    let count = at8(body, 2);
+    let count = number_at(body, 2);
     let mut at = 3;
     for i in 0..count {
         at = read_attribute(body, outlines, 4 * i, at)?;

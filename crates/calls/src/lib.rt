@@ -5,7 +5,7 @@ ghost use Rattle.std.specs.Prelude.{◌≡◌, ◌+◌, ◌*◌, ◌≤◌, ◌<
 
 use case_lines::{least, put_made, put_sets, put_top};
 use cells::numbers::u32_at;
-use cells::{part_of, put32};
+use cells::{part_of, put};
 use ends::id_set;
 use making::fresh_machine;
 use replies::{answer_attributes, answer_start};
@@ -118,7 +118,7 @@ fn read_numbers(input: &[u8], at: usize, n: usize, room: &mut [u32]) -> usize
     let count = least(n, room.len());
     let mut i = 0;
     while i < count {
-        put32(room, i, u32_at(input, at + i * 4) as u32);
+        put(room, i, u32_at(input, at + i * 4) as u32);
         i += 1;
     }
     count

@@ -4,7 +4,7 @@
 ghost use Rattle.std.specs.Prelude.{◌≡◌, ◌+◌, ◌≤◌, ◌^◌, max};
 ghost use Rattle.candidates.specs.Candidates.{Reached, affordable, first_keyed};
 
-use cells::get32;
+use cells::get;
 use cursors::{Cursor, Ranges};
 
 // The words of a row, of which one is the name key.
@@ -29,7 +29,7 @@ fn first_keyed(program: &[u32], key: u32, from: usize, count: usize) -> usize
 {
     let end = from + count;
     for a in from..end {
-        let wanted = get32(program, a * ROW_WORDS + KEY);
+        let wanted = get(program, a * ROW_WORDS + KEY);
         if wanted == 0 || wanted == key {
             return a;
         }

@@ -1,7 +1,11 @@
 -- Parts of a slice, and the big-endian numbers that bytes spell (01, section 1). A byte past the end reads as 0.
-use Rattle.std.specs.Prelude.{List, ℕ, ◌+◌, ◌-◌, ◌*◌, ℤ, get_or, take, drop}
+use Rattle.std.specs.Prelude.{List, ℕ, ◌+◌, ◌-◌, ◌*◌, ◌^◌, ◌<◌, ℤ, get_or, take, drop}
 use Rattle.std.specs.Int.{w32}
 use Rattle.std.proofs.Common.{to_z}
+
+-- A place in a store, or a number of cells: sums of a few of them never wrap.
+abbrev pub IsPlace : ℕ → Type 0
+IsPlace n = n < 2 ^ 48
 
 -- The elements from one index up to another, as far as there are any.
 abbrev pub part : List ℕ → ℕ → ℕ → List ℕ

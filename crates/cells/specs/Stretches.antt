@@ -2,13 +2,17 @@
 use Rattle.std.specs.Prelude.{◌≡◌, refl, List, [], ◌∷◌, ◌++◌, ℕ, zero, suc, ◌+◌, ◌<◌, ◌≤◌, length, get_or, set}
 use Rattle.std.proofs.Common.{◌∙◌, ap, arith, length-set, get_or-set_other, get_or-set_same}
 
--- So many cells of a store from a place on; past the end a cell is 0.
-unfoldable pub cells_from : List ℕ → ℕ → ℕ → List ℕ
-cells_from xs a zero = []
-cells_from xs a (suc n) = get_or xs a 0 ∷ cells_from xs (a + 1) n
+-- So many cells of a store from a place on; past the end a cell is the empty one.
+unfoldable pub cells_or : {A : Type 0} → A → List A → ℕ → ℕ → List A
+cells_or d xs a zero = []
+cells_or d xs a (suc n) = get_or xs a d ∷ cells_or d xs (a + 1) n
+
+-- The same of numbers: past the end a cell is 0.
+abbrev pub cells_from : List ℕ → ℕ → ℕ → List ℕ
+cells_from xs a n = cells_or 0 xs a n
 
 -- A store with a list written into it from a place on; what falls past the end is lost.
-unfoldable pub written : List ℕ → ℕ → List ℕ → List ℕ
+unfoldable pub written : {A : Type 0} → List A → ℕ → List A → List A
 written xs a [] = xs
 written xs a (v ∷ vs) = written (set xs a v) (a + 1) vs
 
@@ -18,7 +22,7 @@ length-written xs a [] = refl
 length-written xs a (v ∷ vs) = length-written (set xs a v) (a + 1) vs ∙ length-set xs a v
 
 pub length-cells : (xs : List ℕ) (a n : ℕ) → length (cells_from xs a n) ≡ n
-unfolding cells_from
+unfolding cells_or
 length-cells xs a zero = refl
 length-cells xs a (suc n) = ap suc (length-cells xs (a + 1) n)
 
@@ -46,7 +50,7 @@ get_in xs a (v ∷ vs) (suc j) h f =
 
 -- the same for stretches: they are equal where their cells are
 pub cells_same : (xs ys : List ℕ) (a n : ℕ) → ((i : ℕ) → a ≤ i → i < a + n → get_or ys i 0 ≡ get_or xs i 0) → cells_from ys a n ≡ cells_from xs a n
-unfolding cells_from
+unfolding cells_or
 cells_same xs ys a zero h = refl
 cells_same xs ys a (suc n) h = rw (h a (omega arith) (omega arith), cells_same xs ys (a + 1) n (λ i p q. h i (omega arith) (omega arith)))
 
@@ -57,13 +61,13 @@ pub cells-above : (xs : List ℕ) (a : ℕ) (vs : List ℕ) (b n : ℕ) → a + 
 cells-above xs a vs b n h = cells_same xs (written xs a vs) b n (λ i p q. get-above xs a vs i (omega arith))
 
 pub cells_in : (xs : List ℕ) (a : ℕ) (vs : List ℕ) → a + length vs ≤ length xs → cells_from (written xs a vs) a (length vs) ≡ vs
-unfolding cells_from written
+unfolding cells_or written
 cells_in xs a [] h = refl
 cells_in xs a (v ∷ vs) h =
     rw (get-below (set xs a v) (a + 1) vs a (omega arith), get_or-set_same xs a v 0 (omega arith), cells_in (set xs a v) (a + 1) vs (rw length-set (omega arith)))
 
 pub cells-cat : (xs : List ℕ) (a n m : ℕ) → cells_from xs a (n + m) ≡ cells_from xs a n ++ cells_from xs (a + n) m
-unfolding cells_from
+unfolding cells_or
 cells-cat xs a zero m = let e : a + 0 ≡ a = omega arith in let f : 0 + m ≡ m = omega arith in rw (e, f)
 cells-cat xs a (suc n) m =
     let e : suc n + m ≡ suc (n + m) = omega arith in

@@ -1,79 +1,105 @@
 //! Total reads and writes on lent slices: past the end a read is 0 and a write does nothing, so no stored number can trap.
 #![tactic(auto)]
 
-ghost use Rattle.std.specs.Prelude.{◌≡◌, ◌<◌, ◌^◌, get_or, set};
+ghost use Rattle.std.specs.Prelude.{◌≡◌, ◌<◌, ◌^◌, ℕ, get_or, set};
 ghost use Rattle.cells.specs.Numbers.{part};
 
 pub mod numbers;
 
-pub fn get8(s: &[u8], i: usize) -> u8
-    ensures { result ≡ get_or s.now i 0 }
-{
-    if i < s.len() { s[i] } else { 0 }
+/// A number of a lent store. Past the end of a store a cell reads as `empty`.
+pub trait Cell: Copy + Drop {
+    ghost empty: { Self };
+
+    ghost number: { Self → ℕ };
+
+    ghost limit: { ℕ };
+
+    fn empty() -> Self
+        ensures { result ≡ empty };
+
+    fn number(self) -> usize
+        ensures value { result ≡ number self }
+        ensures bound { result < limit };
 }
 
-pub fn get16(s: &[u16], i: usize) -> u16
-    ensures { result ≡ get_or s.now i 0 }
-{
-    if i < s.len() { s[i] } else { 0 }
+impl Cell for u8 {
+    ghost empty = { 0 };
+
+    ghost number = { λ x. x };
+
+    ghost limit = { 2 ^ 8 };
+
+    fn empty() -> u8 {
+        0
+    }
+
+    fn number(self) -> usize {
+        self as usize
+    }
 }
 
-pub fn get32(s: &[u32], i: usize) -> u32
-    ensures { result ≡ get_or s.now i 0 }
-{
-    if i < s.len() { s[i] } else { 0 }
+impl Cell for u16 {
+    ghost empty = { 0 };
+
+    ghost number = { λ x. x };
+
+    ghost limit = { 2 ^ 16 };
+
+    fn empty() -> u16 {
+        0
+    }
+
+    fn number(self) -> usize {
+        self as usize
+    }
 }
 
-pub fn get64(s: &[u64], i: usize) -> u64
-    ensures { result ≡ get_or s.now i 0 }
+impl Cell for u32 {
+    ghost empty = { 0 };
+
+    ghost number = { λ x. x };
+
+    ghost limit = { 2 ^ 32 };
+
+    fn empty() -> u32 {
+        0
+    }
+
+    fn number(self) -> usize {
+        self as usize
+    }
+}
+
+impl Cell for u64 {
+    ghost empty = { 0 };
+
+    ghost number = { λ x. x };
+
+    ghost limit = { 2 ^ 64 };
+
+    fn empty() -> u64 {
+        0
+    }
+
+    fn number(self) -> usize {
+        self as usize
+    }
+}
+
+pub fn get<T: Cell>(s: &[T], i: usize) -> T
+    ensures { result ≡ get_or s.now i T.empty }
 {
-    if i < s.len() { s[i] } else { 0 }
+    if i < s.len() { s[i] } else { T::empty() }
 }
 
 // The same, widened: the bound is promised, so that sums of what is read never wrap.
-pub fn at8(s: &[u8], i: usize) -> usize
-    ensures { (result ≡ get_or s.now i 0) × (result < 2 ^ 8) }
+pub fn number_at<T: Cell>(s: &[T], i: usize) -> usize
+    ensures { (result ≡ T.number (get_or s.now i T.empty)) × (result < T.limit) }
 {
-    get8(s, i) as usize
+    get(s, i).number()
 }
 
-pub fn at16(s: &[u16], i: usize) -> usize
-    ensures { (result ≡ get_or s.now i 0) × (result < 2 ^ 16) }
-{
-    get16(s, i) as usize
-}
-
-pub fn at32(s: &[u32], i: usize) -> usize
-    ensures { (result ≡ get_or s.now i 0) × (result < 2 ^ 32) }
-{
-    get32(s, i) as usize
-}
-
-pub fn put8(s: &mut [u8], i: usize, v: u8)
-    ensures { s.new ≡ set s.old i v }
-{
-    if i < s.len() {
-        s[i] = v;
-    }
-}
-
-pub fn put16(s: &mut [u16], i: usize, v: u16)
-    ensures { s.new ≡ set s.old i v }
-{
-    if i < s.len() {
-        s[i] = v;
-    }
-}
-
-pub fn put32(s: &mut [u32], i: usize, v: u32)
-    ensures { s.new ≡ set s.old i v }
-{
-    if i < s.len() {
-        s[i] = v;
-    }
-}
-
-pub fn put64(s: &mut [u64], i: usize, v: u64)
+pub fn put<T: Cell>(s: &mut [T], i: usize, v: T)
     ensures { s.new ≡ set s.old i v }
 {
     if i < s.len() {
@@ -85,14 +111,7 @@ pub fn put64(s: &mut [u64], i: usize, v: u64)
 pub fn part_of(s: &[u8], from: usize, to: usize) -> &[u8]
     ensures { result.now ≡ part s.now from to }
 {
-    if to <= from {
-        return &s[0..0];
-    }
-    if s.len() <= from {
-        return &s[0..0];
-    }
-    if s.len() < to {
-        return &s[from..];
-    }
-    &s[from..to]
+    let end = to.min(s.len());
+    let start = from.min(end);
+    &s[start..end]
 }

@@ -2,7 +2,7 @@
 ghost use Rattle.std.specs.Prelude.{◌≡◌, ◌<◌, ◌^◌};
 ghost use Rattle.cells.specs.Numbers.{be16, be32, i32_at};
 
-use crate::at8;
+use crate::number_at;
 
 pub fn u16_at(s: &[u8], at: usize) -> usize
     ensures { (result ≡ be16 s.now at) × (result < 2 ^ 16) }
@@ -10,7 +10,7 @@ pub fn u16_at(s: &[u8], at: usize) -> usize
     if s.len() <= at {
         return 0;
     }
-    at8(s, at) * 256 + at8(s, at + 1)
+    number_at(s, at) * 256 + number_at(s, at + 1)
 }
 
 pub fn u32_at(s: &[u8], at: usize) -> usize
@@ -22,13 +22,10 @@ pub fn u32_at(s: &[u8], at: usize) -> usize
     u16_at(s, at) * 65536 + u16_at(s, at + 2)
 }
 
-// Two's complement: the upper half of the numbers counts down from -1.
+// Two's complement.
+#[tactic(auto, unfolding(crate::specs::Numbers::i32_at))]
 pub fn i32_at(s: &[u8], at: usize) -> i32
     ensures { result ≡ i32_at s.now at }
 {
-    let x = u32_at(s, at);
-    if x < 2147483648 {
-        return x as i32;
-    }
-    0 - 1 - ((4294967295 - x) as i32)
+    (u32_at(s, at) as u32).cast_signed()
 }

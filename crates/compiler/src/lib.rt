@@ -9,7 +9,7 @@ ghost use Rattle.sheet.specs.Parser.{parse_sheet};
 ghost use Rattle.compiler.specs.Placing.{lay_at, lay_trees, Room, RecordsInside, records_use};
 ghost use Rattle.compiler.specs.Compiler.{compiled_of, store_of};
 
-use cells::at8;
+use cells::number_at;
 use cells::numbers::u16_at;
 use node_records::Links;
 use program::{ROW_WORDS, any_of_type, links_at, put_instruction};
@@ -31,8 +31,8 @@ fn uses_nth_of_type(s: &[u8], count: usize, at: usize) -> bool
     let mut here = at;
     for _ in 0..count {
         let end = here + 2 + u16_at(s, here);
-        let counts = here + 3 + at8(s, here + 2);
-        if any_of_type(s, end, at8(s, counts), counts + 6) {
+        let counts = here + 3 + number_at(s, here + 2);
+        if any_of_type(s, end, number_at(s, counts), counts + 6) {
             return true;
         }
         here = end;

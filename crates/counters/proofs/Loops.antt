@@ -5,12 +5,14 @@ use mathlib.Core.List.{List}
 use Prim.Native.Nat.{ℕ, suc, ◌+◌, ◌-◌, ◌<◌, ◌≤◌}
 use native.Mathlib.Omega.{arith}
 use native.Mathlib.Numerals.{add-one}
-use borrow.Author.Tests.{eq-eqb, ne_eqb}
+use borrow.Author.Tests.{eq-eqb, ne_eqb, lt-ltb, le-ltb}
+use lib.Dec.{ltb}
 use lib.ListN.{length, get_or, drop, drop_of_length-le}
+use Rattle.std.proofs.Common.{Option, Some, None, cond}
 use lib.Seq.{drop-cons}
-use Rattle.cells.specs.Stretches.{cells_from, length-cells}
+use Rattle.cells.specs.Stretches.{cells_or, cells_from, length-cells}
 use Rattle.letters.specs.BytesLaws.{equal-ne}
-use Rattle.stack.specs.Stores.{holds_name, find_pair, pair_of, pair_name_at, pair_at, row_word, opens, pairs_top}
+use Rattle.stack.specs.Stores.{holds_name, find_pair, pair_of, known, pair_name_at, pair_at, row_word, opens, pairs_top}
 
 -- ---- comparing a name
 pub name-long : (names : List ℕ) (at n : ℕ) (x : List ℕ) → (n ≡ length x → ⊥) → false ≡ holds_name names at n x
@@ -26,43 +28,43 @@ name-start names at n x e =
 module _ (names : List ℕ) (at n : ℕ) (x : List ℕ) (i : ℕ) (inv : holds_name names at n x ≡ holds_name names (at + i) (length x - i) (drop i x)) (h : i < length x) (b : ℕ)
     (eb : b ≡ get_or names (at + i) 0) where
   pub name-differs : (get_or x i 0 ≡ b → ⊥) → false ≡ holds_name names at n x
-  unfolding holds_name cells_from
+  unfolding holds_name cells_or
   name-differs d =
       let e : length x - i ≡ suc (length x - (i + 1)) = omega arith in
       sym (inv ∙ rw (e, drop-cons x i 0 h, ne_eqb (get_or x i 0) (get_or names (at + i) 0) (λ q. d (q ∙ sym eb))))
 
   pub name-again : get_or x i 0 ≡ b → holds_name names at n x ≡ holds_name names (at + (i + 1)) (length x - (i + 1)) (drop (i + 1) x)
-  unfolding holds_name cells_from
+  unfolding holds_name cells_or
   name-again d =
       let e : length x - i ≡ suc (length x - (i + 1)) = omega arith in
       let f : at + (i + 1) ≡ at + i + 1 = omega arith in
       inv ∙ rw (e, drop-cons x i 0 h, eq-eqb (get_or x i 0) (get_or names (at + i) 0) (d ∙ eb), f, add-one i)
 
 pub name-over : (names : List ℕ) (at n : ℕ) (x : List ℕ) (i : ℕ) → holds_name names at n x ≡ holds_name names (at + i) (length x - i) (drop i x) → length x ≤ i → true ≡ holds_name names at n x
-unfolding holds_name cells_from
+unfolding holds_name cells_or
 name-over names at n x i inv h = let e : length x - i ≡ 0 = omega arith in sym (inv ∙ rw (e, drop_of_length-le x h))
 
 -- ---- looking for a pair
-pub pair-start : (rows names x : List ℕ) (k top i : ℕ) → k ≡ opens rows → top ≡ pairs_top rows → i ≡ row_word rows k 4 → pair_of rows names x ≡ find_pair rows names x i (top - i)
-unfolding pair_of
+abbrev pub found : ℕ → ℕ → Option ℕ
+found i top = cond (ltb i top) (Some i) None
+
+pub pair-start : (rows names x : List ℕ) (k top i : ℕ) → k ≡ opens rows → top ≡ pairs_top rows → i ≡ row_word rows k 4
+    → cond (known rows names x) (Some (pair_of rows names x)) None ≡ found (find_pair rows names x i (top - i)) top
+unfolding pair_of known
 pair-start rows names x k top i ek et ei = rw (ei, et, ek)
 
-module _ (rows names x : List ℕ) (p i top : ℕ) (inv : p ≡ find_pair rows names x i (top - i)) (h : i < top) (n : ℕ) (b : Bool) (en : n ≡ get_or rows (pair_at i) 0)
+module _ (rows names x : List ℕ) (i top : ℕ) (h : i < top) (n : ℕ) (b : Bool) (en : n ≡ get_or rows (pair_at i) 0)
     (eb : b ≡ holds_name names (pair_name_at i) n x) where
-  pub pair-here : b ≡ true → i ≡ p
+  next : find_pair rows names x i (top - i) ≡ cond b i (find_pair rows names x (i + 1) (top - (i + 1)))
   unfolding find_pair
-  pair-here t =
-      let e : top - i ≡ suc (top - (i + 1)) = omega arith in
-      let q : holds_name names (pair_name_at i) (get_or rows (pair_at i) 0) x ≡ true = rw (← en) (sym eb ∙ t) in
-      sym (inv ∙ rw (e, q))
+  next = let e : top - i ≡ suc (top - (i + 1)) = omega arith in rw (e, eb, en)
 
-  pub pair-later : b ≡ false → p ≡ find_pair rows names x (i + 1) (top - (i + 1))
-  unfolding find_pair
-  pair-later t =
-      let e : top - i ≡ suc (top - (i + 1)) = omega arith in
-      let q : holds_name names (pair_name_at i) (get_or rows (pair_at i) 0) x ≡ false = rw (← en) (sym eb ∙ t) in
-      inv ∙ rw (e, q)
+  pub pair-here : b ≡ true → found (find_pair rows names x i (top - i)) top ≡ Some i
+  pair-here t = rw (next, t, lt-ltb i top h)
 
-pub pair-none : (rows names x : List ℕ) (p i top : ℕ) → p ≡ find_pair rows names x i (top - i) → top ≤ i → i ≡ p
+  pub pair-later : b ≡ false → find_pair rows names x i (top - i) ≡ find_pair rows names x (i + 1) (top - (i + 1))
+  pair-later t = rw (next, t)
+
+pub pair-none : (rows names x : List ℕ) (i top : ℕ) → top ≤ i → None ≡ found (find_pair rows names x i (top - i)) top
 unfolding find_pair
-pair-none rows names x p i top inv h = let e : top - i ≡ 0 = omega arith in sym (inv ∙ rw e)
+pair-none rows names x i top h = let e : top - i ≡ 0 = omega arith in rw (e, le-ltb i top h)

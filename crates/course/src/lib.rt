@@ -8,7 +8,7 @@ ghost use Rattle.sheet.specs.Parser.{node_count};
 ghost use Rattle.course.specs.Course.{kind_of, is_html, has_content, child_position, type_position, live_ranges, first_live, held_cursor, begin, resumed};
 
 use cells::numbers::u16_at;
-use cells::{at32, get32};
+use cells::{get, number_at};
 use counters::{child_count, inc, times};
 use cursors::{Cursor, Ranges};
 use exec::scan::{Scanned, scan_attributes, scan_tag};
@@ -75,9 +75,9 @@ fn live_ranges(sheet: &[u8], rows: &[u32]) -> Ranges
     ensures { result ≡ live_ranges sheet.now rows.now }
 {
     Ranges {
-        parents_top: at32(rows, 1),
+        parents_top: number_at(rows, 1),
         ancestors_from: 4096,
-        ancestors_top: 4096 + at32(rows, 2),
+        ancestors_top: 4096 + number_at(rows, 2),
         limit: u16_at(sheet, 5) as u16,
     }
 }
@@ -85,17 +85,17 @@ fn live_ranges(sheet: &[u8], rows: &[u32]) -> Ranges
 fn first_live(sheet: &[u8], rows: &[u32]) -> Cursor
     ensures { result ≡ first_live sheet.now rows.now }
 {
-    Cursor::first(at32(rows, 16 + at32(rows, 0) * 8 + 2), u16_at(sheet, 7))
+    Cursor::first(number_at(rows, 16 + number_at(rows, 0) * 8 + 2), u16_at(sheet, 7))
 }
 
 fn held_cursor(rows: &[u32]) -> Cursor
     ensures { result ≡ held_cursor rows.now }
 {
     Cursor {
-        stage: get32(rows, 8),
-        slot: at32(rows, 9),
-        at: at32(rows, 10),
-        stop: at32(rows, 11),
+        stage: get(rows, 8),
+        slot: number_at(rows, 9),
+        at: number_at(rows, 10),
+        stop: number_at(rows, 11),
     }
 }
 
@@ -154,7 +154,7 @@ pub fn resume_scan(
     let ranges = live_ranges(sheet, rows);
     let tag = tag_of(rows, names, name);
     let key = name_key(name);
-    let html = is_html(get32(rows, 6));
+    let html = is_html(get(rows, 6));
     let attributes = AttributeMatcher::new(input, outlines, html);
     let from = held_cursor(rows);
     let budget = (u16_at(sheet, 5) - count) as u16;

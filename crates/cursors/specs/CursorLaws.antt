@@ -7,7 +7,7 @@ use mathlib.Core.List.{List, [], ◌∷◌, ◌++◌, flat_map, append_assoc}
 use Prim.Native.Nat.{ℕ, zero, suc, ◌+◌, ◌-◌, ◌*◌, ◌≤◌}
 use native.Mathlib.Omega.{arith}
 use Rattle.std.proofs.Math.Dec.{leb}
-use Rattle.cells.specs.Stretches.{cells_from}
+use Rattle.cells.specs.Stretches.{cells_or, cells_from}
 use Rattle.cursors.specs.declared.Cursor.{Cursor}
 use Rattle.cursors.specs.declared.Ranges.{Ranges}
 use Rattle.instructions.specs.Instructions.{row_word}
@@ -25,7 +25,7 @@ ats-ride stage slot stop a zero = refl
 ats-ride stage slot stop a (suc n) = ap (λ l. a ∷ l) (ats-ride stage slot stop (a + 1) n)
 
 ats-rides : (program nodes : List ℕ) (limit w stage slot n : ℕ) → ats (rides program nodes limit w stage slot n) ≡ flat_map (hangs program limit w) (cells_from nodes slot n)
-unfolding rides cells_from flat_map hangs range_at
+unfolding rides cells_or flat_map hangs range_at
 ats-rides program nodes limit w stage slot zero = refl
 ats-rides program nodes limit w stage slot (suc n) =
     ats-cat (in_range limit (range_at program nodes w stage slot)) (rides program nodes limit w stage (slot + 1) n)

@@ -4,7 +4,7 @@
 ghost use Rattle.std.specs.Prelude.{◌≡◌, ◌<◌, ◌-◌, ◌^◌};
 ghost use Rattle.cursors.specs.Cursors.{first_cursor, after_cursor, range_at, jump_of};
 
-use cells::{at16, at32};
+use cells::number_at;
 
 // Which slots hold the matched nodes whose ranges are live, and how many instructions there are.
 #[derive(Clone, Copy)]
@@ -40,9 +40,9 @@ fn range_at(program: &[u32], nodes: &[u16], word: usize, stage: u32, slot: usize
     requires { (word < 8) × (slot < 2 ^ 64 - 1) }
     ensures { result ≡ range_at program.now nodes.now word stage slot }
 {
-    let node = at16(nodes, slot);
-    let first = at32(program, node * 8 + word);
-    let count = at32(program, node * 8 + word + 1);
+    let node = number_at(nodes, slot);
+    let first = number_at(program, node * 8 + word);
+    let count = number_at(program, node * 8 + word + 1);
     Cursor {
         stage,
         slot: slot + 1,

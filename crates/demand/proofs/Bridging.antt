@@ -10,7 +10,7 @@ use Rattle.std.proofs.Math.ListN.{length}
 use Rattle.std.proofs.lemmas.List.{length-map}
 use Rattle.std.proofs.Math.Dec.{leb}
 use borrow.Author.Tests.{le-ltb, lt-leb, le-leb, ltb-true, ltb-false, leb-false, eqb-true, eqb-false, eq-eqb, ne_eqb}
-use Rattle.cells.specs.Stretches.{cells_from, written, length-cells, get_in}
+use Rattle.cells.specs.Stretches.{cells_or, cells_from, written, length-cells, get_in}
 use Rattle.letters.specs.Bytes.{lower_of}
 use Rattle.names.specs.Names.{void_name}
 use Rattle.rules.specs.Attributes.{good_outlines}
@@ -109,13 +109,13 @@ bad-same name = rw (length-map name lower_of) (or-cond (eqb (length name) 0) (lt
 
 -- ---- the id words that go out
 get-cells : (xs : List ℕ) (a m j : ℕ) → j < m → get_or (cells_from xs a m) j 0 ≡ get_or xs (a + j) 0
-unfolding cells_from
+unfolding cells_or
 get-cells xs a zero j h = absurd (let q : ⊥ = omega arith in q)
 get-cells xs a (suc m) zero h = let e : a + 0 ≡ a = omega arith in rw e
 get-cells xs a (suc m) (suc j) h = let e : a + suc j ≡ a + 1 + j = omega arith in rw e (get-cells xs (a + 1) m j (omega arith))
 
 words_same : (xs ys : List ℕ) (a b n : ℕ) → ((j : ℕ) → j < n * id_words → get_or ys (b * id_words + j) 0 ≡ get_or xs (a * id_words + j) 0) → words_from ys b n ≡ words_from xs a n
-unfolding words_from cells_from
+unfolding words_from cells_or
 words_same xs ys a b zero h = refl
 words_same xs ys a b (suc n) h =
     let y : b * id_words + 0 ≡ b * id_words = omega arith in
@@ -134,7 +134,7 @@ buffer-words out ids k n h =
     words_same ids (written out 0 (cells_from ids (ids_at k) (n * id_words))) k 0 n (λ j p. get_in out 0 (cells_from ids (ids_at k) (n * id_words)) j (omega arith) (omega arith) ∙ get-cells ids (ids_at k) (n * id_words) j p)
 
 two-written : (ids : List ℕ) (a : ℕ) → written (0 ∷ 0 ∷ []) 0 (cells_from ids a 2) ≡ cells_from ids a 2
-unfolding written cells_from
+unfolding written cells_or
 two-written ids a = refl
 
 module _ (C : Compiled) (esi : Bool) where

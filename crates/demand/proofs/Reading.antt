@@ -8,7 +8,7 @@ use Prim.Native.Nat.{ℕ, zero, suc, ◌+◌, ◌-◌, ◌*◌, ◌≤◌}
 use native.Mathlib.Omega.{arith}
 use Rattle.std.proofs.Math.ListN.{get_or}
 use Rattle.std.proofs.Math.Dec.{ltb}
-use Rattle.cells.specs.Stretches.{cells_from, cells-cat, length-cells}
+use Rattle.cells.specs.Stretches.{cells_or, cells_from, cells-cat, length-cells}
 use Rattle.letters.specs.Bytes.{equal_bytes}
 use Rattle.sheet.specs.Parser.{node_count, root_count}
 use Rattle.cursors.specs.Cursors as cursors
@@ -234,7 +234,7 @@ module _ (C : Compiled) where
 
   -- The pool of ancestors is what all open elements have, outermost first.
   pub ancestors-all : (s : Stores) (d kt at pt : ℕ) → Tidy (view s) d kt at pt → ancestors_of (rows_program C) (items_at (view s) d kt at) ≡ cells_from s.nodes parent_limit at
-  unfolding items_at cells_from
+  unfolding items_at cells_or
   ancestors-all s zero kt at pt (a, b, c, e) = rw b
   ancestors-all s (suc k) kt at pt (a, b, c, e, f) =
       let m = row_word s.rows (suc k) 3 in
@@ -243,7 +243,7 @@ module _ (C : Compiled) where
       (sym (ap (λ n. cells_from s.nodes parent_limit n) q ∙ cells-cat s.nodes parent_limit m (at - m)))
 
   parents-top : (s : Stores) (d kt at pt : ℕ) → Tidy (view s) d kt at pt → parents_of (rows_program C) (items_at (view s) d kt at) ≡ cells_from s.nodes (row_word s.rows d 2) (kt - row_word s.rows d 2)
-  unfolding items_at cells_from
+  unfolding items_at cells_or
   parents-top s zero kt at pt (a, b, c, e) = let z : kt - row_word s.rows 0 2 ≡ 0 = omega arith in rw z
   parents-top s (suc k) kt at pt t = refl
 

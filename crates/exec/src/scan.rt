@@ -7,7 +7,7 @@ ghost use Rattle.exec.specs.Scans.{tag_scan, answer_from, found_in, attribute_sc
 ghost use Rattle.exec.specs.Searching.{Within, Judges, verdict_of};
 
 use candidates::next_candidate;
-use cells::put16;
+use cells::put;
 use cursors::{Cursor, Ranges};
 use instructions::instruction::{asks_attributes, attributes_pass, tag_tests_pass, tests_bytes};
 use node_tests::Tag;
@@ -81,7 +81,7 @@ fn scan<F: Fn(u16) -> Verdict>(
         match verdict(a) {
             Verdict::Fails => {}
             Verdict::Matches => {
-                put16(found, all, a);
+                put(found, all, a);
                 all += 1;
             }
             Verdict::Asks => {

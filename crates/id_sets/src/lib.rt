@@ -4,12 +4,12 @@
 ghost use Rattle.std.specs.Prelude.{◌≡◌, ◌-◌, length};
 ghost use Rattle.id_sets.specs.Ids.{has_id, ids_from, ids_of, first_of, with_id, union};
 
-use cells::{get64, put64};
+use cells::{get, put};
 
 pub fn has_id(words: &[u64], id: usize) -> bool
     ensures { result ≡ has_id words.now id }
 {
-    let word = get64(words, id / 64);
+    let word = get(words, id / 64);
     let bit = id % 64;
     (word >> bit) % 2 == 1
 }
@@ -17,9 +17,9 @@ pub fn has_id(words: &[u64], id: usize) -> bool
 pub fn add_id(words: &mut [u64], id: usize)
     ensures { words.new ≡ with_id words.old id }
 {
-    let word = get64(words, id / 64);
+    let word = get(words, id / 64);
     let bit = id % 64;
-    put64(words, id / 64, word | (1 << bit));
+    put(words, id / 64, word | (1 << bit));
 }
 
 pub fn unite(words: &mut [u64], more: &[u64])

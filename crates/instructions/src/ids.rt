@@ -2,7 +2,7 @@
 ghost use Rattle.std.specs.Prelude.{◌≡◌};
 ghost use Rattle.instructions.specs.FoundIds.{with_ids, with_ids_of};
 
-use cells::{at8, at32, part_of};
+use cells::{number_at, part_of};
 use id_sets::add_id;
 
 // The set with the listed ids.
@@ -19,8 +19,8 @@ pub fn gather_ids(sheet: &[u8], program: &[u32], found: &[u16], ids: &mut [u64])
     ensures { ids.new ≡ with_ids_of sheet.now program.now ids.old found.now }
 {
     for a in found {
-        let place = at32(program, *a as usize * 8);
-        let count = at8(sheet, place + 2);
+        let place = number_at(program, *a as usize * 8);
+        let count = number_at(sheet, place + 2);
         add_ids(part_of(sheet, place + 3, place + 3 + count), ids);
     }
 }

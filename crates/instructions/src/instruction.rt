@@ -5,7 +5,7 @@ ghost use Rattle.rules.specs.Attributes.{attributes_of};
 ghost use Rattle.instructions.specs.Instructions.{row_word, tests_hold, test_end, tests_end, tag_count, attribute_count, tag_tests_pass, attribute_passes, asks};
 
 use cells::numbers::u16_at;
-use cells::{at32, part_of};
+use cells::{number_at, part_of};
 use node_tests::attribute_matcher::AttributeMatcher;
 use node_tests::{Tag, tag_test};
 
@@ -30,9 +30,9 @@ fn row_of(program: &[u32], a: u16) -> Row
     ensures attribute_count { (result.attribute_count ≡ attribute_count program.now a) × (result.attribute_count < 2 ^ 8) }
 {
     let row = a as usize * ROW_WORDS;
-    let counts = at32(program, row + COUNTS);
+    let counts = number_at(program, row + COUNTS);
     Row {
-        tests: at32(program, row + TESTS),
+        tests: number_at(program, row + TESTS),
         tag_count: counts / 256 % 256,
         attribute_count: counts % 256,
     }

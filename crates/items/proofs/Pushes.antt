@@ -7,7 +7,7 @@ use native.Mathlib.Omega.{arith}
 use borrow.Author.Tests.{lt-ltb, le-ltb, eq-eqb, ne_eqb}
 use lib.ListN.{get_or}
 use lib.Dec.{ltb}
-use Rattle.cells.specs.Stretches.{cells_from, written}
+use Rattle.cells.specs.Stretches.{cells_or, cells_from, written}
 use Rattle.stack.specs.Stores.{holds_name, row_at, name_at, ids_at, id_words, row_word, opens, nearest, through, popped_count, back_to, popped_rows, popped_ids, ids_of_top}
 
 -- ---- how many are popped
@@ -28,7 +28,7 @@ module _ (rows ids out out' : List ℕ) (n d : ℕ) (ed : d ≡ opens rows) (eo 
 
   pub pop-some : (n ≡ 0 → ⊥) → (t1 t2 t3 : ℕ) (r' : List ℕ) → t1 ≡ row_word rows (d - n + 1) 2 → t2 ≡ row_word rows (d - n + 1) 3 → t3 ≡ row_word rows (d - n + 1) 4
       → r' ≡ written rows 0 (cells_from ((d - n) ∷ t1 ∷ t2 ∷ t3 ∷ []) 0 4) → (r' ≡ popped_rows rows n) × (out' ≡ popped_ids rows ids out n)
-  unfolding popped_rows popped_ids back_to cells_from
+  unfolding popped_rows popped_ids back_to cells_or
   pop-some h t1 t2 t3 r' e1 e2 e3 er = (er ∙ sym (rw (ne_eqb _ _ h, ← ed, ← e1, ← e2, ← e3)), eo ∙ rw ed)
 
 -- ---- looking for an open element

@@ -6,7 +6,7 @@ ghost use Rattle.id_sets.specs.Ids.{ids_of};
 ghost use Rattle.text.specs.Text.{Wrote};
 ghost use Rattle.match_lines.specs.MatchLines.{ids_text, match_line};
 
-use cells::put8;
+use cells::put;
 use id_sets::next_id;
 use text::{put_decimal, put_text};
 
@@ -19,7 +19,7 @@ pub fn put_ids(out: &mut [u8], at: usize, words: &[u64]) -> usize
     let mut next = at;
     let mut from = 0;
     while let Some(id) = next_id(words, from) {
-        put8(out, next, b' ');
+        put(out, next, b' ');
         next = put_decimal(out, next + 1, id as u64);
         from = id + 1;
     }

@@ -7,7 +7,7 @@ ghost use Rattle.refusals.specs.Numbers.{judged};
 ghost use Rattle.node_records.specs.Checks.{kind_ok, name_length_ok, comparison_ok, body_ok, check_test, check_tests, rising, check_counts, check_ids, check_record, counts_of};
 
 use cells::numbers::u16_at;
-use cells::{at8, get8, part_of};
+use cells::{get, number_at, part_of};
 use refusals::{Fault, SheetRefusal};
 
 /// Where a record ends, and how many child trees and descendant trees follow it.
@@ -40,7 +40,7 @@ fn name_length_ok(n: usize) -> bool
 fn comparison_ok(body: &[u8]) -> bool
     ensures { result ≡ comparison_ok body.now }
 {
-    2 <= body.len() && at8(body, 0) <= 3 && at8(body, 1) + 2 <= body.len()
+    2 <= body.len() && number_at(body, 0) <= 3 && number_at(body, 1) + 2 <= body.len()
 }
 
 #[tactic(auto, unfolding(crate::specs::Checks::body_ok))]
@@ -78,11 +78,11 @@ fn check_test(
     if n < 2 {
         return Err(SheetRefusal::BadTest.at(at));
     }
-    let kind = get8(s, at + 2);
+    let kind = get(s, at + 2);
     if !kind_ok(attributes, kind) {
         return Err(SheetRefusal::UnknownKind.at(at));
     }
-    if 1 < at8(s, at + 3) {
+    if 1 < number_at(s, at + 3) {
         return Err(SheetRefusal::BadTest.at(at));
     }
     if !body_ok(kind, part_of(s, at + 4, at + 2 + n)) {
@@ -135,8 +135,8 @@ fn check_counts(s: &[u8], node: usize, end: usize, p: usize) -> Result<Links, Fa
     if end - p < 2 {
         return Err(SheetRefusal::RecordOverrun.at(node));
     }
-    let tags = at8(s, p);
-    let attributes = at8(s, p + 1);
+    let tags = number_at(s, p);
+    let attributes = number_at(s, p + 1);
     if tags + attributes == 0 {
         return Err(SheetRefusal::NoTest.at(node));
     }
@@ -164,7 +164,7 @@ fn check_ids(s: &[u8], node: usize, end: usize) -> Result<Links, Fault>
     if end - node < 3 {
         return Err(SheetRefusal::RecordOverrun.at(node));
     }
-    let count = at8(s, node + 2);
+    let count = number_at(s, node + 2);
     if end - node - 3 < count {
         return Err(SheetRefusal::RecordOverrun.at(node));
     }

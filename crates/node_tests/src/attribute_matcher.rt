@@ -5,7 +5,7 @@ ghost use Rattle.node_tests.specs.Tests.{ignores_case, operator_of, comparison, 
 ghost use Rattle.node_tests.specs.Readings.{attribute_test_of};
 
 use crate::is_negated;
-use cells::{at8, get8, part_of};
+use cells::{get, number_at, part_of};
 use operators::Operator;
 use rules::attribute_matcher::{has_attribute, value_matches};
 
@@ -42,10 +42,10 @@ impl<'s> AttributeTest<'s> {
     fn comparison(operator: Operator, body: &'s [u8]) -> AttributeTest<'s>
         ensures { attribute_test_of result ≡ comparison operator body.now }
     {
-        let end = 2 + at8(body, 1);
+        let end = 2 + number_at(body, 1);
         AttributeTest::Compares {
             operator,
-            case: get8(body, 0),
+            case: get(body, 0),
             name: part_of(body, 2, end),
             value: part_of(body, end, body.len()),
         }
@@ -142,7 +142,7 @@ impl<'i, 'o> AttributeMatcher<'i, 'o> {
         ensures { result ≡ attribute_test_holds self.entry.html (attributes_of self.entry.input.now self.entry.outlines.now) (read_attribute_test test.now) }
     {
         let body = part_of(test, 2, test.len());
-        self.holds(AttributeTest::read(get8(test, 0), body)) != is_negated(test)
+        self.holds(AttributeTest::read(get(test, 0), body)) != is_negated(test)
     }
 }
 

@@ -6,7 +6,7 @@ ghost use Rattle.node_tests.specs.Tests.{tag_kind, tag_holds, tag_test_holds, re
 ghost use Rattle.node_tests.specs.Readings.{tag_test_of};
 
 use cells::numbers::i32_at;
-use cells::{get8, part_of};
+use cells::{get, part_of};
 use names::same_name;
 use nth::nth;
 
@@ -67,7 +67,7 @@ impl<'s> TagTest<'s> {
 fn is_negated(test: &[u8]) -> bool
     ensures { result ≡ is_negated test.now }
 {
-    get8(test, 1) != 0
+    get(test, 1) != 0
 }
 
 // Whether a tag passes a tag test of the sheet.
@@ -75,5 +75,5 @@ pub fn tag_test<'n>(test: &[u8], tag: Tag<'n>) -> bool
     ensures { result ≡ tag_test_holds tag.entry.name.now tag.entry.child tag.entry.of_type (read_tag_test test.now) }
 {
     let body = part_of(test, 2, test.len());
-    TagTest::read(get8(test, 0), body).holds(tag) != is_negated(test)
+    TagTest::read(get(test, 0), body).holds(tag) != is_negated(test)
 }

@@ -10,7 +10,7 @@ ghost use Rattle.sheet.specs.Spelling.{TestsInside, Inside};
 ghost use Rattle.program.specs.Program.{test_key, node_key, words, row, any_of_type, instruction_at};
 
 use cells::numbers::u16_at;
-use cells::{at8, part_of, put32};
+use cells::{number_at, part_of, put};
 use names::name_key;
 use node_records::Links;
 
@@ -27,7 +27,7 @@ pub const ROW_WORDS: usize = 8;
 fn test_key(test: &[u8]) -> u32
     ensures { result ≡ test_key (read_tag_test test.now) }
 {
-    if at8(test, 0) == LOCAL_NAME && at8(test, 1) == 0 {
+    if number_at(test, 0) == LOCAL_NAME && number_at(test, 1) == 0 {
         name_key(part_of(test, 2, test.len()))
     } else {
         0
@@ -50,7 +50,7 @@ fn node_key(s: &[u8], count: usize, at: usize) -> u32
 fn is_of_type(test: &[u8]) -> bool
     ensures { result ≡ of_type (read_tag_test test.now).test }
 {
-    at8(test, 0) == NTH_OF_TYPE
+    number_at(test, 0) == NTH_OF_TYPE
 }
 
 // Is a test of kind 5 among the `count` tests at `at`, which end before `end`?
@@ -76,7 +76,7 @@ pub fn links_at(s: &[u8], at: usize) -> Links
     ensures children_value { result.children ≡ child_count s.now at }
     ensures descendants_value { result.descendants ≡ descendant_count s.now at }
 {
-    let counts = at + 3 + at8(s, at + 2);
+    let counts = at + 3 + number_at(s, at + 2);
     Links {
         next: at + 2 + u16_at(s, at),
         children: u16_at(s, counts + 2),
@@ -118,7 +118,7 @@ fn put_row(store: &mut [u32], slot: usize, row: Row)
         row.key,
     ];
     for i in 0..ROW_WORDS {
-        put32(store, slot * ROW_WORDS + i, words[i]);
+        put(store, slot * ROW_WORDS + i, words[i]);
     }
 }
 
@@ -135,9 +135,9 @@ pub fn put_instruction(
     requires slot_bound { (slot ≤ 1024) × ((children ≤ 1024) × (descendants ≤ 1024)) }
     ensures { store.new ≡ sets store.old (slot * 8) (row (instruction_at s.now at children descendants)) }
 {
-    let counts = at + 3 + at8(s, at + 2);
-    let tags = at8(s, counts);
-    let attributes = at8(s, counts + 1);
+    let counts = at + 3 + number_at(s, at + 2);
+    let tags = number_at(s, counts);
+    let attributes = number_at(s, counts + 1);
     let tests = counts + 6;
     put_row(
         store,

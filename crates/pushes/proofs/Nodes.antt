@@ -1,51 +1,18 @@
--- The loops over found nodes: which are written.
-use mathlib.Core.Path.{◌≡◌, refl, sym, ◌∙◌, ap}
-use mathlib.Core.Bool.{Bool, true, false}
-use mathlib.Core.List.{List, [], ◌∷◌, ◌++◌}
-use Prim.Native.Nat.{ℕ, suc, ◌+◌, ◌-◌, ◌<◌, ◌≤◌}
-use native.Mathlib.Omega.{arith}
-use native.Mathlib.Numerals.{add-one}
-use borrow.Author.Tests.{eq-eqb, ne_eqb}
-use lib.ListN.{length, get_or, set, drop, length-append}
-use lib.Seq.{drop-cons, drop-length}
-use Rattle.cells.specs.Stretches.{cells_from, written, cells-below}
+-- The loop over found nodes: which are written.
+use Rattle.std.proofs.Common.{◌≡◌, refl, sym, ◌∙◌, ap, Bool, true, false, cond, not, ◌&&◌, List, [], ◌∷◌, ◌++◌, ℕ, suc, ◌+◌, ◌<◌, ◌≤◌, length, get_or, set, take, arith, length-append, append-nil, eq-eqb, ne_eqb, ◌-◌}
+use Rattle.std.specs.List.{filter}
+use Rattle.std.proofs.lemmas.List.Elements.{filter_more}
+use Rattle.std.proofs.lemmas.List.Sums.{length-filter, count_by-le-length}
+use Rattle.std.proofs.Math.Seq.{take_all}
+use Rattle.cells.specs.Stretches.{cells_or, cells_from, written, cells-below}
 use Rattle.stack.specs.Stores.{bears, bearers, listed, new_ancestors, descendant_block}
-use Rattle.stack.specs.Laws.{written-cat, bearers-few, ancestors_few, ancestors-one}
-use Rattle.stack.proofs.Bearers.{one_kept, one_left, next-parent, next-count, no-parents}
-
--- ---- one node of the parents
-module _ (program : List ℕ) (limit w a : ℕ) (b : Bool) (e : b ≡ bears program limit w a) where
-  pub parent-kept : (ns ns' : List ℕ) (k : ℕ) → b ≡ true → ns' ≡ set ns k a → (ns' ≡ written ns k (bearers program limit w (a ∷ []))) × (k + 1 ≡ k + length (bearers program limit w (a ∷ [])))
-  unfolding written
-  parent-kept ns ns' k t q = rw (one_kept program limit w a (sym e ∙ t)) (q, refl)
-
-  pub parent-left : (ns : List ℕ) (k : ℕ) → b ≡ false → (ns ≡ written ns k (bearers program limit w (a ∷ []))) × (k ≡ k + length (bearers program limit w (a ∷ [])))
-  unfolding written
-  parent-left ns k t = rw (one_left program limit w a (sym e ∙ t)) (refl, omega arith)
-
--- ---- all parents
-module _ (program found : List ℕ) (limit w i : ℕ) (h : i < length found) where
-  pub parents-again : (ns₀ ns ns' : List ℕ) (at k k' : ℕ) → k ≤ at + i → written ns₀ at (bearers program limit w found) ≡ written ns k (bearers program limit w (drop i found))
-      → at + length (bearers program limit w found) ≡ k + length (bearers program limit w (drop i found))
-      → ns' ≡ written ns k (bearers program limit w (get_or found i 0 ∷ [])) → k' ≡ k + length (bearers program limit w (get_or found i 0 ∷ []))
-      → (k' ≤ at + (i + 1)) × (written ns₀ at (bearers program limit w found) ≡ written ns' k' (bearers program limit w (drop (i + 1) found)))
-      × (at + length (bearers program limit w found) ≡ k' + length (bearers program limit w (drop (i + 1) found)))
-  parents-again ns₀ ns ns' at k k' l a b p q =
-      let f = bearers-few program limit w (get_or found i 0 ∷ []) in
-      let g = next-count program found limit w i h in
-      (omega arith, a ∙ ap (written ns k) (next-parent program found limit w i h) ∙ written-cat ns k (bearers program limit w (get_or found i 0 ∷ [])) (bearers program limit w (drop (i + 1) found)) ∙ rw (p, q), omega arith)
-
-module _ (program found : List ℕ) (limit w i : ℕ) (e : i ≡ length found) where
-  pub parents-over : (ns₀ ns : List ℕ) (at k : ℕ) → written ns₀ at (bearers program limit w found) ≡ written ns k (bearers program limit w (drop i found))
-      → at + length (bearers program limit w found) ≡ k + length (bearers program limit w (drop i found))
-      → (ns ≡ written ns₀ at (bearers program limit w found)) × (k ≡ at + length (bearers program limit w found))
-  unfolding written
-  parents-over ns₀ ns at k a b = let z = no-parents program found limit w i e in let y : length (bearers program limit w (drop i found)) ≡ 0 = rw z in (sym (a ∙ rw z), omega arith)
+use Rattle.stack.specs.Laws.{written-cat}
+use Rattle.pushes.specs.Kept.{is_kept, kept}
 
 -- ---- looking through a stretch
 module _ (ns : List ℕ) (at n a j : ℕ) (inv : listed a (cells_from ns at n) ≡ listed a (cells_from ns (at + j) (n - j))) where
   look : j < n → cells_from ns (at + j) (n - j) ≡ get_or ns (at + j) 0 ∷ cells_from ns (at + (j + 1)) (n - (j + 1))
-  unfolding cells_from
+  unfolding cells_or
   look h = let e : n - j ≡ suc (n - (j + 1)) = omega arith in let f : at + (j + 1) ≡ at + j + 1 = omega arith in rw (e, f)
 
   pub look_hit : (x : ℕ) → j < n → x ≡ get_or ns (at + j) 0 → a ≡ x → true ≡ listed a (cells_from ns at n)
@@ -57,54 +24,79 @@ module _ (ns : List ℕ) (at n a j : ℕ) (inv : listed a (cells_from ns at n) �
   look-on x h e q = inv ∙ ap (listed a) (look h) ∙ rw (ne_eqb a (get_or ns (at + j) 0) (λ z. q (z ∙ sym e)))
 
   pub look-end : n ≤ j → false ≡ listed a (cells_from ns at n)
-  unfolding listed cells_from
+  unfolding listed cells_or
   look-end h = let e : n - j ≡ 0 = omega arith in sym (inv ∙ rw e)
 
 pub look-start : (ns : List ℕ) (at n a : ℕ) → listed a (cells_from ns at n) ≡ listed a (cells_from ns (at + 0) (n - 0))
 look-start ns at n a = let e : at + 0 ≡ at = omega arith in let f : n - 0 ≡ n = omega arith in rw (e, f)
 
--- ---- one node of the ancestors: three ways out
-module _ (old ns program : List ℕ) (limit k a : ℕ) (b : Bool) (e : b ≡ bears program limit descendant_block a) where
-  pub ancestor-none : b ≡ false → (ns ≡ written ns k (new_ancestors old program limit (a ∷ []))) × (k ≡ k + length (new_ancestors old program limit (a ∷ [])))
-  unfolding new_ancestors written
-  ancestor-none t = let q = sym e ∙ t in rw q (refl, omega arith)
+-- ---- what is kept, by its two users: behind no list, and behind the ancestors
+pub kept-bearers : (ns program : List ℕ) (limit w at : ℕ) (found : List ℕ) → kept (cells_from ns at 0) program limit w found ≡ bearers program limit w found
+unfolding bearers listed cells_or
+kept-bearers ns program limit w at [] = refl
+kept-bearers ns program limit w at (a ∷ found) = rw (kept-bearers ns program limit w at found) (go (bears program limit w a) (a ∷ bearers program limit w found) (bearers program limit w found))
+  where
+    go : (b : Bool) (x y : List ℕ) → cond (b && true) x y ≡ cond b x y
+    go true x y = refl
+    go false x y = refl
 
-  module _ (u : b ≡ true) (c : Bool) (f : c ≡ listed a old) where
-    pub ancestor-old : c ≡ true → (ns ≡ written ns k (new_ancestors old program limit (a ∷ []))) × (k ≡ k + length (new_ancestors old program limit (a ∷ [])))
-    unfolding new_ancestors written
-    ancestor-old t = let q = sym e ∙ u in let r = sym f ∙ t in rw (q, r) (refl, omega arith)
+pub kept-ancestors : (old program : List ℕ) (limit : ℕ) (found : List ℕ) → kept old program limit descendant_block found ≡ new_ancestors old program limit found
+unfolding new_ancestors
+kept-ancestors old program limit [] = refl
+kept-ancestors old program limit (a ∷ found) = rw (kept-ancestors old program limit found) (go (bears program limit descendant_block a) (listed a old) (a ∷ new_ancestors old program limit found) (new_ancestors old program limit found))
+  where
+    go : (b c : Bool) (x y : List ℕ) → cond (b && not c) x y ≡ cond b (cond c y x) y
+    go true true x y = refl
+    go true false x y = refl
+    go false c x y = refl
 
-    pub ancestor-new : (ns' : List ℕ) → c ≡ false → ns' ≡ set ns k a → (ns' ≡ written ns k (new_ancestors old program limit (a ∷ []))) × (k + 1 ≡ k + length (new_ancestors old program limit (a ∷ [])))
-    unfolding new_ancestors written
-    ancestor-new ns' t p = let q = sym e ∙ u in let r = sym f ∙ t in rw (q, r) (p, refl)
+pub kept-few : (old program : List ℕ) (limit w : ℕ) (found : List ℕ) → length (kept old program limit w found) ≤ length found
+kept-few old program limit w found = omega (arith, length-filter (is_kept old program limit w) found, count_by-le-length (is_kept old program limit w) found)
 
--- ---- all ancestors: what is written stands past the part that is looked through
-module _ (ns₀ ns program found : List ℕ) (limit base top k i : ℕ) (same : cells_from ns base top ≡ cells_from ns₀ base top) (lo : base + top ≤ k) (hi : k ≤ base + top + i)
-    (a : written ns₀ (base + top) (new_ancestors (cells_from ns₀ base top) program limit found) ≡ written ns k (new_ancestors (cells_from ns₀ base top) program limit (drop i found)))
-    (b : base + top + length (new_ancestors (cells_from ns₀ base top) program limit found) ≡ k + length (new_ancestors (cells_from ns₀ base top) program limit (drop i found))) where
-  pub ancestors-again : (ns' : List ℕ) (k' : ℕ) → i < length found → ns' ≡ written ns k (new_ancestors (cells_from ns base top) program limit (get_or found i 0 ∷ []))
-      → k' ≡ k + length (new_ancestors (cells_from ns base top) program limit (get_or found i 0 ∷ []))
-      → (cells_from ns' base top ≡ cells_from ns₀ base top) × (base + top ≤ k') × (k' ≤ base + top + (i + 1))
-      × (written ns₀ (base + top) (new_ancestors (cells_from ns₀ base top) program limit found) ≡ written ns' k' (new_ancestors (cells_from ns₀ base top) program limit (drop (i + 1) found)))
-      × (base + top + length (new_ancestors (cells_from ns₀ base top) program limit found) ≡ k' + length (new_ancestors (cells_from ns₀ base top) program limit (drop (i + 1) found)))
-  ancestors-again ns' k' h p q =
-      let one = new_ancestors (cells_from ns₀ base top) program limit (get_or found i 0 ∷ []) in
-      let p' : ns' ≡ written ns k one = rw same at p in
-      let q' : k' ≡ k + length one = rw same at q in
-      let f = ancestors_few (cells_from ns₀ base top) program limit (get_or found i 0 ∷ []) in
-      let d = ancestors-one (cells_from ns₀ base top) program limit (get_or found i 0) (drop (suc i) found) in
-      let z : new_ancestors (cells_from ns₀ base top) program limit (drop i found) ≡ one ++ new_ancestors (cells_from ns₀ base top) program limit (drop (i + 1) found) = rw (drop-cons found i 0 h, add-one i) d in
-      let y = ap length z ∙ length-append one (new_ancestors (cells_from ns₀ base top) program limit (drop (i + 1) found)) in (
-        rw p' (cells-below ns k one base top lo) ∙ same,
-        omega arith,
-        omega arith,
-        a ∙ ap (written ns k) z ∙ written-cat ns k one (new_ancestors (cells_from ns₀ base top) program limit (drop (i + 1) found)) ∙ rw (p', q'),
-        omega arith,
-      )
+-- ---- one node: three ways out
+module _ (old program : List ℕ) (limit w a : ℕ) (b : Bool) (e : b ≡ bears program limit w a) where
+  pub kept-none : b ≡ false → is_kept old program limit w a ≡ false
+  kept-none t = rw (← e, t)
 
-  pub ancestors-over : i ≡ length found → (ns ≡ written ns₀ (base + top) (new_ancestors (cells_from ns₀ base top) program limit found)) × (k ≡ base + top + length (new_ancestors (cells_from ns₀ base top) program limit found))
-  unfolding new_ancestors written
-  ancestors-over e =
-      let z : new_ancestors (cells_from ns₀ base top) program limit (drop i found) ≡ [] = rw (e, drop-length found) in
-      let y : length (new_ancestors (cells_from ns₀ base top) program limit (drop i found)) ≡ 0 = rw z in
-      (sym (a ∙ rw z), omega arith)
+  module _ (t : b ≡ true) (c : Bool) (f : c ≡ listed a old) where
+    pub kept-old : c ≡ true → is_kept old program limit w a ≡ false
+    kept-old u = rw (← e, t, ← f, u)
+
+    pub kept-new : c ≡ false → is_kept old program limit w a ≡ true
+    kept-new u = rw (← e, t, ← f, u)
+
+-- ---- how far the loop has come
+module _ (p : ℕ → Bool) (ns₀ : List ℕ) (at : ℕ) (found : List ℕ) where
+  pub record IsKept (ns : List ℕ) (k i : ℕ) : Type 0 where
+    pub stored : ns ≡ written ns₀ at (filter p (take i found))
+    pub count : k ≡ at + length (filter p (take i found))
+    pub few : k ≤ at + i
+
+  pub kept-start : IsKept ns₀ at 0
+  unfolding written
+  kept-start = record { stored = refl; count = omega arith; few = omega arith }
+
+  module _ (ns : List ℕ) (k i : ℕ) (r : IsKept ns k i) where
+    module _ (h : i < length found) where
+      pub kept-yes : (ns' : List ℕ) → p (get_or found i 0) ≡ true → ns' ≡ set ns k (get_or found i 0) → IsKept ns' (k + 1) (i + 1)
+      unfolding written
+      kept-yes ns' e q =
+          let one = get_or found i 0 ∷ [] in
+          let m : filter p (take (i + 1) found) ≡ filter p (take i found) ++ one = filter_more p found i 0 h ∙ rw e in
+          let w = written-cat ns₀ at (filter p (take i found)) one in
+          let l = ap length m ∙ length-append (filter p (take i found)) one in
+          record { stored = q ∙ rw (r.stored, r.count, m, w); count = omega (arith, r.count); few = omega (arith, r.few) }
+
+      pub kept-no : p (get_or found i 0) ≡ false → IsKept ns k (i + 1)
+      kept-no e =
+          let m : filter p (take (i + 1) found) ≡ filter p (take i found) = filter_more p found i 0 h ∙ rw e (append-nil (filter p (take i found))) in
+          record { stored = rw m r.stored; count = rw m r.count; few = omega (arith, r.few) }
+
+    pub kept-end : length found ≤ i → (ns ≡ written ns₀ at (filter p found)) × (k ≡ at + length (filter p found))
+    kept-end h = let e : take i found ≡ found = take_all i found h in
+        let f : (ns ≡ written ns₀ at (filter p (take i found))) × (k ≡ at + length (filter p (take i found))) = (r.stored, r.count) in
+        rw e at f
+
+    -- what stands before the place that is written to
+    pub kept_below : (b n : ℕ) → b + n ≤ at → cells_from ns b n ≡ cells_from ns₀ b n
+    kept_below b n h = rw r.stored (cells-below ns₀ at (filter p (take i found)) b n h)

@@ -4,10 +4,10 @@ use Rattle.std.proofs.Math.Seq.{drop-cons}
 use Rattle.std.proofs.lemmas.List.{append_assoc, drop-set-lt, length-set, take-append-drop}
 use Rattle.std.proofs.lemmas.Grind.{take-set_at}
 use Rattle.std.specs.List.{copy_within}
-use Rattle.cells.specs.Stretches.{written, cells_from, length-cells}
+use Rattle.cells.specs.Stretches.{cells_or, written, cells_from, length-cells}
 
 cells_are : (xs : List ℕ) (a n : ℕ) → a + n ≤ length xs → cells_from xs a n ≡ take n (drop a xs)
-unfolding cells_from
+unfolding cells_or
 cells_are xs a zero h = refl
 cells_are xs a (suc n) h =
     let lt : a < length xs = omega arith in

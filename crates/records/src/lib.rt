@@ -8,7 +8,7 @@ ghost use Rattle.records.specs.Records.{record_end, start_of, record_of};
 ghost use Rattle.records.specs.Sheets.{sheet_length, sheet_end};
 
 use attribute_records::{Record, attributes_of};
-use cells::at8;
+use cells::number_at;
 use cells::numbers::{u16_at, u32_at};
 
 // Where the record at a place of a block ends, if all of it is there: two bytes of length, then so many bytes.
@@ -49,7 +49,7 @@ pub fn record_of(body: &[u8], outlines: &mut [u32]) -> Option<Record>
     ensures outlines_after { read result outlines.new ≡ record_of body.now outlines.old }
     ensures fits { IfSome result Fits }
 {
-    let kind = at8(body, 0);
+    let kind = number_at(body, 0);
     match kind {
         1 => start_of(body),
         2 => attributes_of(body, outlines),

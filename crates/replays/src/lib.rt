@@ -4,7 +4,7 @@
 ghost use Rattle.std.specs.Prelude.{◌≡◌, ◌≤◌, ◌<◌, length};
 
 use calls::{State, attributes_call, end_call, ids_call, make_call, start_call};
-use cells::at8;
+use cells::number_at;
 
 // The call at hand, by its kind; any other ends the case.
 fn one_call(
@@ -20,7 +20,7 @@ fn one_call(
     requires { (length input.now ≤ 131072) × (s.at ≤ 131072) × (s.wrote ≤ 131072) × (s.size ≤ length program.old) }
     ensures { (result.at ≤ 262144) × (result.wrote ≤ 143360) × (result.size ≤ length program.new) }
 {
-    let kind = at8(input, s.at);
+    let kind = number_at(input, s.at);
     if kind == 1 {
         return make_call(s, input, program, rows, names, ids, nodes, out);
     }

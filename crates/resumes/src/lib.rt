@@ -9,7 +9,7 @@ ghost use Rattle.tags.specs.Tags.{given};
 ghost use Rattle.resumes.specs.Resumes.{attributes_call};
 
 use accepting::Answer;
-use cells::get32;
+use cells::get;
 use course::{has_content, resume_scan};
 use refusals::Refusal;
 use shapes::check_state;
@@ -40,7 +40,7 @@ fn attributes_named(
     let n = resume_scan(
         sheet, program, rows, names, nodes, name, input, outlines, &mut found,
     );
-    let content = has_content(get32(rows, HELD_KIND), self_closing);
+    let content = has_content(get(rows, HELD_KIND), self_closing);
     finish_held(
         sheet,
         program,

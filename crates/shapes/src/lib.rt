@@ -7,7 +7,7 @@ ghost use Rattle.stack.specs.Stores.{stores};
 ghost use Rattle.shapes.specs.Shapes.{esi_on, types_counted, sized, header_shaped, shaped, state_refusal};
 
 use cells::numbers::u16_at;
-use cells::{at32, get32};
+use cells::{get, number_at};
 use refusals::Refusal;
 use stack::{
     ANCESTORS_TOP, FLAGS, HELD_FOUND, HELD_NAME, INSTRUCTION, MARK, OPENS, PAIRS_TOP, PARENTS_TOP,
@@ -44,13 +44,13 @@ pub const ALL_FLAGS: usize = 3;
 pub fn is_esi_on(rows: &[u32]) -> bool
     ensures { result ≡ esi_on rows.now }
 {
-    get32(rows, FLAGS) % 2 == 1
+    get(rows, FLAGS) % 2 == 1
 }
 
 pub fn counts_types(rows: &[u32]) -> bool
     ensures { result ≡ types_counted rows.now }
 {
-    get32(rows, FLAGS) / 2 % 2 == 1
+    get(rows, FLAGS) / 2 % 2 == 1
 }
 
 // 31: whether every store has at least its size.
@@ -69,14 +69,14 @@ pub fn is_sized(rows: &[u32], names: &[u8], ids: &[u64], nodes: &[u16]) -> bool
 fn is_header_shaped(rows: &[u32], count: usize) -> bool
     ensures { result ≡ header_shaped rows.now count }
 {
-    at32(rows, OPENS) <= OPEN_LIMIT
-        && at32(rows, PARENTS_TOP) <= PARENT_LIMIT
-        && at32(rows, ANCESTORS_TOP) <= ANCESTOR_LIMIT
-        && at32(rows, PAIRS_TOP) <= PAIR_LIMIT
-        && at32(rows, WAITS) <= 1
-        && at32(rows, HELD_NAME) <= NAME_LIMIT
-        && at32(rows, HELD_FOUND) <= count
-        && at32(rows, FLAGS) <= ALL_FLAGS
+    number_at(rows, OPENS) <= OPEN_LIMIT
+        && number_at(rows, PARENTS_TOP) <= PARENT_LIMIT
+        && number_at(rows, ANCESTORS_TOP) <= ANCESTOR_LIMIT
+        && number_at(rows, PAIRS_TOP) <= PAIR_LIMIT
+        && number_at(rows, WAITS) <= 1
+        && number_at(rows, HELD_NAME) <= NAME_LIMIT
+        && number_at(rows, HELD_FOUND) <= count
+        && number_at(rows, FLAGS) <= ALL_FLAGS
 }
 
 // 30: whether the lent sheet, instructions and header keep the shape rules.
@@ -85,8 +85,8 @@ pub fn is_shaped(sheet: &[u8], program: &[u32], rows: &[u32]) -> bool
     ensures { result ≡ shaped sheet.now program.now rows.now }
 {
     let count = u16_at(sheet, 5);
-    at32(rows, MARK) == MADE_MARK
-        && at32(rows, SHEET) == sheet.len()
+    number_at(rows, MARK) == MADE_MARK
+        && number_at(rows, SHEET) == sheet.len()
         && count <= NODE_LIMIT
         && count * INSTRUCTION <= program.len()
         && is_header_shaped(rows, count)

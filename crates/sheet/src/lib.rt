@@ -6,7 +6,7 @@ ghost use Rattle.meaning.specs.Trees.{size};
 ghost use Rattle.refusals.specs.Numbers.{judged};
 ghost use Rattle.sheet.specs.Parser.{walk_of, tree_size, tree_at, parse_trees, checked_of, parse_sheet};
 
-use cells::at8;
+use cells::number_at;
 use cells::numbers::{u16_at, u32_at};
 use node_records::check_record;
 use refusals::{Fault, SheetRefusal};
@@ -80,7 +80,7 @@ pub fn check_sheet(s: &[u8]) -> Result<(), Fault>
     if MAX_LENGTH < s.len() {
         return Err(SheetRefusal::SheetTooLong.at(0));
     }
-    if at8(s, 0) != 1 {
+    if number_at(s, 0) != 1 {
         return Err(SheetRefusal::WrongVersion.at(0));
     }
     if u32_at(s, 1) != s.len() {

@@ -1,28 +1,15 @@
--- One law for each turn and each way out of the loops that copy.
-use mathlib.Core.Path.{◌≡◌, sym, ◌∙◌}
-use mathlib.Core.List.{List}
-use Prim.Native.Nat.{ℕ, suc, ◌+◌, ◌-◌, ◌<◌, ◌≤◌}
-use native.Mathlib.Omega.{arith}
-use lib.ListN.{get_or, set}
-use Rattle.cells.specs.Stretches.{cells_from, written}
+-- What each turn of the loop that copies adds.
+use Rattle.std.proofs.Common.{◌≡◌, List, ℕ, zero, suc, ◌+◌, get_or, set, arith}
+use Rattle.cells.specs.Stretches.{cells_or, written}
 
-module _ (to₀ to from : List ℕ) (start n at i : ℕ) (inv : written to₀ at (cells_from from start n) ≡ written to (at + i) (cells_from from (start + i) (n - i))) where
-  pub copy-again : (to' : List ℕ) (v : ℕ) → i < n → v ≡ get_or from (start + i) 0 → to' ≡ set to (at + i) v
-      → written to₀ at (cells_from from start n) ≡ written to' (at + (i + 1)) (cells_from from (start + (i + 1)) (n - (i + 1)))
-  unfolding written cells_from
-  copy-again to' v h ev et =
-      let e : n - i ≡ suc (n - (i + 1)) = omega arith in
-      let f : at + (i + 1) ≡ at + i + 1 = omega arith in
-      let g : start + (i + 1) ≡ start + i + 1 = omega arith in
-      inv ∙ rw (e, f, g, et, ev)
-
-  pub copy-over : n ≤ i → to ≡ written to₀ at (cells_from from start n)
-  unfolding written cells_from
-  copy-over h = let e : n - i ≡ 0 = omega arith in sym (inv ∙ rw e)
-
-pub copy_start : (to from : List ℕ) (start n at : ℕ) → written to at (cells_from from start n) ≡ written to (at + 0) (cells_from from (start + 0) (n - 0))
-copy_start to from start n at =
-    let e : at + 0 ≡ at = omega arith in
-    let f : start + 0 ≡ start = omega arith in
-    let g : n - 0 ≡ n = omega arith in
-    rw (e, f, g)
+pub written-more : {A : Type 0} (d : A) (xs ys : List A) (a b i : ℕ) → written xs a (cells_or d ys b (i + 1)) ≡ set (written xs a (cells_or d ys b i)) (a + i) (get_or ys (b + i) d)
+unfolding written cells_or
+written-more d xs ys a b zero =
+    let e : a + 0 ≡ a = omega arith in
+    let f : b + 0 ≡ b = omega arith in
+    rw (e, f)
+written-more d xs ys a b (suc i) =
+    let e : a + suc i ≡ a + 1 + i = omega arith in
+    let f : b + suc i ≡ b + 1 + i = omega arith in
+    let g : suc i + 1 ≡ suc (i + 1) = omega arith in
+    rw (e, f, g) (written-more d (set xs a (get_or ys b d)) ys (a + 1) (b + 1) i)

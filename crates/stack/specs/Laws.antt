@@ -2,12 +2,12 @@
 use Rattle.std.specs.Prelude.{◌≡◌, refl, Bool, true, false, cond, List, [], ◌∷◌, ◌++◌, ℕ, zero, suc, ◌+◌, ◌<◌, ◌≤◌, length, set, drop}
 use Rattle.std.proofs.Common.{sym, arith, add-one, lt-ltb, drop-cons}
 use Rattle.std.proofs.Math.Seq.{drop-length}
-use Rattle.cells.specs.Stretches.{cells_from, written}
+use Rattle.cells.specs.Stretches.{cells_or, cells_from, written}
 use Rattle.stack.specs.Stores.{count_limit, one_more, bears, bearers, listed, new_ancestors, descendant_block}
 
 -- ---- stretches
 cells-from : (xs : List ℕ) (i n : ℕ) → i + n ≡ length xs → cells_from xs i n ≡ drop i xs
-unfolding cells_from
+unfolding cells_or
 cells-from xs i zero e = let f : i ≡ length xs = omega arith in rw f (sym (drop-length xs))
 cells-from xs i (suc n) e = rw (drop-cons xs i 0 (omega arith), cells-from xs (i + 1) n (omega arith), add-one i)
 

@@ -10,7 +10,7 @@ use accepting::{Answer, accept};
 use course::has_content;
 use cursors::Cursor;
 use refusals::Refusal;
-use waiting::{hold, release};
+use waiting::{Held, hold, release};
 use weighing::{cell_of, check_push};
 
 // A tag that needs no attributes: refused by 27 or 28, or accepted.
@@ -54,11 +54,14 @@ pub fn start_found(
     ensures { outcome (reply_of result) (stores rows.new names.new ids.new nodes.new) ≡ begun sheet.now program.now (stores rows.old names.old ids.old nodes.old) name.now kind (sought_of found.now stuck cursor) }
 {
     if stuck {
-        let stage = cursor.stage;
-        let slot = cell_of(cursor.slot);
-        let at = cell_of(cursor.at);
-        let stop = cell_of(cursor.stop);
-        hold(rows, names, nodes, name, kind, found, stage, slot, at, stop);
+        let held = Held {
+            kind,
+            stage: cursor.stage,
+            slot: cell_of(cursor.slot),
+            at: cell_of(cursor.at),
+            stop: cell_of(cursor.stop),
+        };
+        hold(rows, names, nodes, name, found, held);
         return Ok(Answer::Attributes);
     }
     let content = has_content(kind, false);

@@ -4,14 +4,14 @@
 ghost use Rattle.std.specs.Prelude.{◌≡◌, ◌+◌, ◌≤◌, length};
 ghost use Rattle.text.specs.Text.{digits, decimal, Wrote};
 
-use cells::put8;
+use cells::put;
 
 pub fn put_text(out: &mut [u8], at: usize, text: &[u8]) -> usize
     requires { (at ≤ 8589934592) × (length text.now ≤ 65536) }
     ensures { Wrote out.old at text.now result out.new }
 {
     for (i, b) in text.iter().enumerate() {
-        put8(out, at + i, *b);
+        put(out, at + i, *b);
     }
     at + text.len()
 }
@@ -25,11 +25,11 @@ fn put_digits(out: &mut [u8], at: usize, k: usize, n: u64) -> usize
         return at;
     }
     if n < 10 {
-        put8(out, at, b'0' + (n % 10) as u8);
+        put(out, at, b'0' + (n % 10) as u8);
         return at + 1;
     }
     let next = put_digits(out, at, k - 1, n / 10);
-    put8(out, next, b'0' + (n % 10) as u8);
+    put(out, next, b'0' + (n % 10) as u8);
     next + 1
 }
 

@@ -3,13 +3,13 @@ use Rattle.std.proofs.Common.{◌≡◌, ℕ, zero, suc, ◌+◌, ◌-◌, ◌<�
 use Rattle.std.proofs.Math.Seq.{drop-cons}
 use Rattle.std.proofs.lemmas.Bool.{eqb-true}
 use Rattle.std.specs.Io.KnownBytes.{Consumes, IsAtEnd}
-use Rattle.cells.specs.Stretches.{cells_from, written, length-written, length-cells, cells_in}
+use Rattle.cells.specs.Stretches.{cells_or, cells_from, written, length-written, length-cells, cells_in}
 use Rattle.trace_blocks.specs.Progress.{Refilled, ReadOn, InFront}
 use Rattle.block_ends.specs.declared.Halt.{Halt}
 use Rattle.trace_blocks.specs.declared.Progress.{Progress}
 
 pub cells_are : (xs : List ℕ) (a n : ℕ) → a + n ≤ length xs → cells_from xs a n ≡ take n (drop a xs)
-unfolding cells_from
+unfolding cells_or
 cells_are xs a zero h = refl
 cells_are xs a (suc n) h =
     let lt : a < length xs = omega arith in

@@ -5,7 +5,7 @@ use Rattle.std.proofs.Math.Seq.{drop-cons}
 use Rattle.std.proofs.lemmas.Bool.{le-leb, lt-leb, leb-false, leb-true, ltb-true, ltb-false, lt-ltb, le-ltb}
 use Rattle.std.proofs.lemmas.List.{append-nil, append_assoc}
 use Rattle.cells.specs.Numbers.{part}
-use Rattle.cells.specs.Stretches.{cells_from, written, length-written, cells_in, cells-below, cells-cat}
+use Rattle.cells.specs.Stretches.{cells_or, cells_from, written, length-written, cells_in, cells-below, cells-cat}
 use Rattle.lines.specs.Lines.{bad_trace_line}
 use Rattle.records.specs.Records.{record_end}
 use Rattle.stack.specs.Stores.{Stores}
@@ -21,7 +21,7 @@ use Rattle.trace_lines.proofs.Records.{rec-done, rec-cut, rec-turn, whole_in, en
 -- ---- what stands in the buffer
 
 cells_are : (xs : List ℕ) (a n : ℕ) → a + n ≤ length xs → cells_from xs a n ≡ take n (drop a xs)
-unfolding cells_from
+unfolding cells_or
 cells_are xs a zero h = refl
 cells_are xs a (suc n) h =
     let lt : a < length xs = omega arith in

@@ -5,9 +5,19 @@ ghost use Rattle.std.specs.Prelude.{◌≡◌, ◌≤◌, length, get_or};
 ghost use Rattle.cells.specs.Stretches.{written};
 ghost use Rattle.stack.specs.Stores.{name_limit, found_limit, found_from, held_rows, held_name, held_found, released_rows, fresh_rows};
 
-use cells::{at32, put32};
-use stack::copies::{copy8, copy16, copy32};
+use cells::{number_at, put};
+use stack::copies::copy;
 use stack::{FOUND, HELD_FOUND, HELD_NAME, WAITS};
+
+// What of a waiting tag stands in the header beside its name and nodes: its kind, and the place to go on from.
+#[derive(Clone, Copy)]
+pub struct Held {
+    pub kind: u32,
+    pub stage: u32,
+    pub slot: u32,
+    pub at: u32,
+    pub stop: u32,
+}
 
 // A tag begins to wait.
 pub fn hold(
@@ -15,44 +25,40 @@ pub fn hold(
     names: &mut [u8],
     nodes: &mut [u16],
     name: &[u8],
-    kind: u32,
     found: &[u16],
-    stage: u32,
-    slot: u32,
-    at: u32,
-    stop: u32,
+    held: Held,
 )
     requires { (length name.now ≤ name_limit) × (length found.now ≤ found_limit) }
-    ensures { (rows.new ≡ held_rows rows.old name.now kind found.now stage slot at stop) × (names.new ≡ written names.old 0 name.now) × (nodes.new ≡ written nodes.old found_from found.now) }
+    ensures { (rows.new ≡ held_rows rows.old name.now held.kind found.now held.stage held.slot held.at held.stop) × (names.new ≡ written names.old 0 name.now) × (nodes.new ≡ written nodes.old found_from found.now) }
 {
     let record = [
         1,
         name.len() as u32,
-        kind,
+        held.kind,
         found.len() as u32,
-        stage,
-        slot,
-        at,
-        stop,
+        held.stage,
+        held.slot,
+        held.at,
+        held.stop,
     ];
-    copy32(&record, 0, 8, rows, WAITS);
-    copy8(name, 0, name.len(), names, 0);
-    copy16(found, 0, found.len(), nodes, FOUND);
+    copy(&record, 0, 8, rows, WAITS);
+    copy(name, 0, name.len(), names, 0);
+    copy(found, 0, found.len(), nodes, FOUND);
 }
 
 // It waits no longer.
 pub fn release(rows: &mut [u32])
     ensures { rows.new ≡ released_rows rows.old }
 {
-    put32(rows, WAITS, 0);
+    put(rows, WAITS, 0);
 }
 
 // The name of the waiting tag; the answer is its length.
 pub fn held_name(rows: &[u32], names: &[u8], out: &mut [u8]) -> usize
     ensures { (result ≡ get_or rows.now 5 0) × (out.new ≡ written out.old 0 (held_name rows.now names.now)) }
 {
-    let n = at32(rows, HELD_NAME);
-    copy8(names, 0, n, out, 0);
+    let n = number_at(rows, HELD_NAME);
+    copy(names, 0, n, out, 0);
     n
 }
 
@@ -60,8 +66,8 @@ pub fn held_name(rows: &[u32], names: &[u8], out: &mut [u8]) -> usize
 pub fn held_found(rows: &[u32], nodes: &[u16], out: &mut [u16]) -> usize
     ensures { (result ≡ get_or rows.now 7 0) × (out.new ≡ written out.old 0 (held_found rows.now nodes.now)) }
 {
-    let n = at32(rows, HELD_FOUND);
-    copy16(nodes, FOUND, n, out, 0);
+    let n = number_at(rows, HELD_FOUND);
+    copy(nodes, FOUND, n, out, 0);
     n
 }
 
@@ -72,5 +78,5 @@ pub fn fresh_rows(rows: &mut [u32], mark: u32, sheet: u32, flags: u32)
     let header = [
         0, 0, 0, 0, 0, 0, 0, 0, 0, 0, 0, 0, mark, sheet, flags, 0, 0, 0, 0, 0, 0, 0, 0, 0,
     ];
-    copy32(&header, 0, 24, rows, 0);
+    copy(&header, 0, 24, rows, 0);
 }

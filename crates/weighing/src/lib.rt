@@ -9,7 +9,7 @@ ghost use Rattle.weighing.specs.Weighing.{is_bad_name, tag_refusal, pairs_full, 
 ghost use Rattle.weighing.specs.Words.{cell};
 
 use cells::numbers::u16_at;
-use cells::{at32, put8};
+use cells::{number_at, put};
 use counters::{child_count, is_known};
 use letters::lower;
 use refusals::Refusal;
@@ -35,7 +35,7 @@ pub fn lower_into(name: &[u8], out: &mut [u8])
     ensures { out.new ≡ written out.old 0 (map lower_of name.now) }
 {
     for i in 0..name.len() {
-        put8(out, i, lower(name[i]));
+        put(out, i, lower(name[i]));
     }
 }
 
@@ -44,7 +44,7 @@ pub fn lower_into(name: &[u8], out: &mut [u8])
 pub fn check_tag(rows: &[u32], namespace: u32, name: &[u8]) -> Result<(), Refusal>
     ensures { number_of result ≡ tag_refusal rows.now namespace name.now }
 {
-    if at32(rows, WAITS) != 0 {
+    if number_at(rows, WAITS) != 0 {
         return Err(Refusal::TagWaits);
     }
     if is_bad_name(name) {
@@ -64,7 +64,7 @@ pub fn check_tag(rows: &[u32], namespace: u32, name: &[u8]) -> Result<(), Refusa
 pub fn are_pairs_full(rows: &[u32], names: &[u8], name: &[u8]) -> bool
     ensures { result ≡ pairs_full rows.now names.now name.now }
 {
-    counts_types(rows) && PAIR_LIMIT <= at32(rows, PAIRS_TOP) && !is_known(rows, names, name)
+    counts_types(rows) && PAIR_LIMIT <= number_at(rows, PAIRS_TOP) && !is_known(rows, names, name)
 }
 
 // A tag that is whole: 27, 28, if it would be pushed.
@@ -81,10 +81,10 @@ pub fn check_push(
     if !content {
         return Ok(());
     }
-    if OPEN_LIMIT <= at32(rows, OPENS) {
+    if OPEN_LIMIT <= number_at(rows, OPENS) {
         return Err(Refusal::TooManyOpen);
     }
-    if PARENT_LIMIT < at32(rows, PARENTS_TOP) + count_parents(program, u16_at(sheet, 5), found) {
+    if PARENT_LIMIT < number_at(rows, PARENTS_TOP) + count_parents(program, u16_at(sheet, 5), found) {
         return Err(Refusal::TooManyMatched);
     }
     Ok(())
@@ -95,7 +95,7 @@ pub fn check_push(
 pub fn check_attributes(rows: &[u32], input: &[u8], outlines: &[u32]) -> Result<(), Refusal>
     ensures { number_of result ≡ attributes_refusal rows.now input.now outlines.now }
 {
-    if at32(rows, WAITS) == 0 {
+    if number_at(rows, WAITS) == 0 {
         return Err(Refusal::NoTagWaits);
     }
     if !good_outlines(input, outlines) {
@@ -109,7 +109,7 @@ pub fn check_attributes(rows: &[u32], input: &[u8], outlines: &[u32]) -> Result<
 pub fn check_end(rows: &[u32], name: &[u8]) -> Result<(), Refusal>
     ensures { number_of result ≡ end_refusal rows.now name.now }
 {
-    if at32(rows, WAITS) != 0 {
+    if number_at(rows, WAITS) != 0 {
         return Err(Refusal::TagWaits);
     }
     if is_bad_name(name) {

@@ -3,4 +3,4 @@ use native.Mathlib.Omega.{arith}
 use Rattle.attribute_records.proofs.read_attribute.Goals as goal
 
 pub returns : goal.returns
-returns c = attribute-whole _ _ _ _ _ c.at8.ensures.0 _ c.u16_at.ensures.0 (omega arith) _ _ _ _ c.put32.ensures c.put32-2.ensures c.put32-3.ensures c.put32-4.ensures
+returns c = attribute-whole _ _ _ _ _ c.number_at.ensures.0 _ c.u16_at.ensures.0 (omega arith) _ _ _ _ c.put.ensures c.put-2.ensures c.put-3.ensures c.put-4.ensures

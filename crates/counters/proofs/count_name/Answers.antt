@@ -1,8 +1,9 @@
-use Rattle.counters.proofs.Counts.{name-again, name_new}
+use Rattle.counters.proofs.Counts.{was_none, was_some, name-again, name_new}
 use Rattle.counters.proofs.count_name.Goals as goal
 
-pub returns-then-i-top : goal.returns-then-i-top
-returns-then-i-top c = name-again _ _ _ _ _ c.at32-top.ensures.0 c.find_pair-i.ensures.0 c.if-i-top.true _ _ _ c.get32.ensures c.inc-again.ensures c.put32.ensures
+pub returns-in-Some : goal.returns-in-Some
+returns-in-Some c = let (k, e) = was_some _ _ _ _ c.find_pair.ensures.pair _ c.in-Some.is in name-again _ _ _ k _ _ _ _ e c.get.ensures c.inc-again.ensures c.put.ensures
 
-pub returns : goal.returns
-returns c = name_new _ _ _ _ _ c.at32-top.ensures.0 c.find_pair-i.ensures.0 c.if-i-top.false _ _ _ _ c.copy32.ensures c.inc.ensures c.put32-2.ensures c.copy8.ensures
+pub returns-in-None : goal.returns-in-None
+returns-in-None c =
+    name_new _ _ _ (was_none _ _ _ _ c.find_pair.ensures.pair c.in-None.is) _ _ _ _ _ c.number_at-top.ensures.0 c.copy.ensures c.inc.ensures c.put-in-None.ensures c.copy-in-None.ensures

@@ -1,15 +1,15 @@
-use native.Mathlib.Omega.{arith}
-use Rattle.counters.proofs.Loops.{pair-start, pair-here, pair-later, pair-none}
+use Rattle.std.proofs.Common.{ℕ, sym, ap, ◌∙◌}
+use Rattle.counters.proofs.Loops.{found, pair-start, pair-here, pair-later, pair-none}
 use Rattle.counters.proofs.find_pair.Goals as goal
 
 pub loop-i-init : goal.loop-i-init
-loop-i-init c = (c.at32-i.ensures.1, pair-start _ _ _ _ _ _ c.at32.ensures.0 c.at32-top.ensures.0 c.at32-i.ensures.0)
+loop-i-init c = pair-start _ _ _ _ _ _ c.number_at.ensures.0 c.number_at-top.ensures.0 c.number_at-first.ensures.0
 
-pub returns-then-holds_name : goal.returns-then-holds_name
-returns-then-holds_name c = (pair-here _ _ _ _ _ _ c.loop-i.invariant.1 c.loop-i-test.true _ _ c.at32-in-loop-i.ensures.0 c.holds_name.ensures c.if-holds_name.true, c.loop-i.invariant.0)
+pub returns-then-holds_name-clause-pair : goal.returns-then-holds_name-clause-pair
+returns-then-holds_name-clause-pair c = sym (c.loop-i.invariant ∙ pair-here _ _ _ _ _ c.loop-i-test.true _ _ c.number_at-n.ensures.0 c.holds_name.ensures c.if-holds_name.true)
 
 pub loop-i-preserved : goal.loop-i-preserved
-loop-i-preserved c = (omega arith, pair-later _ _ _ _ _ _ c.loop-i.invariant.1 c.loop-i-test.true _ _ c.at32-in-loop-i.ensures.0 c.holds_name.ensures c.if-holds_name.false)
+loop-i-preserved c = c.loop-i.invariant ∙ ap (λ (p : ℕ). found p c.number_at-top.result) (pair-later _ _ _ _ _ c.loop-i-test.true _ _ c.number_at-n.ensures.0 c.holds_name.ensures c.if-holds_name.false)
 
-pub returns : goal.returns
-returns c = (pair-none _ _ _ _ _ _ c.loop-i.invariant.1 c.loop-i-test.false, c.loop-i.invariant.0)
+pub returns-clause-pair : goal.returns-clause-pair
+returns-clause-pair c = pair-none _ _ _ _ _ c.loop-i-test.false ∙ sym c.loop-i.invariant

@@ -1,4 +1,3 @@
-use native.Mathlib.Omega.{arith}
 use Rattle.counters.proofs.Loops.{name-long, name-start, name-differs, name-again, name-over}
 use Rattle.counters.proofs.holds_name.Goals as goal
 
@@ -6,13 +5,13 @@ pub returns-then-n-name : goal.returns-then-n-name
 returns-then-n-name c = name-long _ _ _ _ c.if-n-name.true
 
 pub loop-i-init : goal.loop-i-init
-loop-i-init c = (omega arith, name-start _ _ _ _ c.if-n-name.false)
+loop-i-init c = name-start _ _ _ _ c.if-n-name.false
 
-pub returns-then-name-i : goal.returns-then-name-i
-returns-then-name-i c = name-differs _ _ _ _ _ c.loop-i.invariant.1 c.loop-i-test.true _ c.get8.ensures c.if-name-i.true
+pub returns-then-b-get : goal.returns-then-b-get
+returns-then-b-get c = name-differs _ _ _ _ _ c.loop-i.invariant c.loop-i-test.true _ c.get.ensures c.if-b-get.true
 
 pub loop-i-preserved : goal.loop-i-preserved
-loop-i-preserved c = (omega arith, name-again _ _ _ _ _ c.loop-i.invariant.1 c.loop-i-test.true _ c.get8.ensures c.if-name-i.false)
+loop-i-preserved c = name-again _ _ _ _ _ c.loop-i.invariant c.loop-i-test.true _ c.get.ensures c.if-b-get.false
 
 pub returns : goal.returns
-returns c = name-over _ _ _ _ _ c.loop-i.invariant.1 c.loop-i-test.false
+returns c = name-over _ _ _ _ _ c.loop-i.invariant c.loop-i-test.false

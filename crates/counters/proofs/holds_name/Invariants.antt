@@ -1,11 +1,6 @@
-use mathlib.Core.Path.{◌≡◌}
-use Prim.Native.Nat.{◌+◌, ◌-◌, ◌≤◌}
-use lib.ListN.{length, drop}
+use Rattle.std.proofs.Common.{◌≡◌, ◌+◌, ◌-◌, length, drop}
 use Rattle.stack.specs.Stores.{holds_name}
 use Rattle.counters.proofs.holds_name.Given as goal
 
 abbrev pub invariant-loop-i : goal.invariant-loop-i
-invariant-loop-i l = (l.i ≤ length l.name) × (holds_name l.names l.at l.n l.name ≡ holds_name l.names (l.at + l.i) (length l.name - l.i) (drop l.i l.name))
-
-abbrev pub decreases-loop-i : goal.decreases-loop-i
-decreases-loop-i l = length l.name - l.i
+invariant-loop-i l = holds_name l.names l.at l.n l.name ≡ holds_name l.names (l.at + l.i) (length l.name - l.i) (drop l.i l.name)

@@ -10,4 +10,4 @@ unfolding range_at
 law program nodes w stage slot m a n e1 e2 e3 = simp (e3, e2, e1)
 
 pub returns : goal.returns
-returns c = law _ _ _ _ _ _ _ _ c.at16-node.ensures.0 c.at32-first.ensures.0 c.at32-count.ensures.0
+returns c = law _ _ _ _ _ _ _ _ c.number_at-node.ensures.0 c.number_at-first.ensures.0 c.number_at-count.ensures.0

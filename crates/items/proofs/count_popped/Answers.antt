@@ -1,8 +1,9 @@
+use Rattle.std.proofs.Common.{refl, arith}
 use Rattle.items.proofs.Pushes.{pops-none, pops-some}
 use Rattle.items.proofs.count_popped.Goals as goal
 
-pub returns-then-p-eq0 : goal.returns-then-p-eq0
-returns-then-p-eq0 c = pops-none _ _ _ _ c.find_open-p.ensures.0 c.if-p-eq0.true
+pub returns-in-Some : goal.returns-in-Some
+returns-in-Some c = let h = c.in-Some.ensures.open in pops-some _ _ _ _ c.in-Some.ensures.found _ c.number_at.ensures.0 (λ e. omega arith)
 
-pub returns : goal.returns
-returns c = pops-some _ _ _ _ c.find_open-p.ensures.0 _ c.at32.ensures.0 c.if-p-eq0.false
+pub returns-in-None : goal.returns-in-None
+returns-in-None c = pops-none _ _ _ 0 c.in-None.ensures.found refl

@@ -7,14 +7,14 @@ pub loop-id-init : goal.loop-id-init
 loop-id-init c = let e = ids-start c.args.words.now in record { long = refl; below_all = omega arith; below_words = omega arith; room = omega arith; place = rw e; text = rw e }
 
 pub overflow_add-from : goal.overflow_add-from
-overflow_add-from c = let m = ids_more c.loop-id.out _ _ c.args.words.now c.loop-id.next c.loop-id.from _ _ (omega arith) (sym c.in-Some.is ∙ c.next_id.ensures) c.put8.ensures c.put_decimal-next.ensures.0.0 c.put_decimal-next.ensures.0.1 in omega arith
+overflow_add-from c = let m = ids_more c.loop-id.out _ _ c.args.words.now c.loop-id.next c.loop-id.from _ _ (omega arith) (sym c.in-Some.is ∙ c.next_id.ensures) c.put.ensures c.put_decimal-next.ensures.0.0 c.put_decimal-next.ensures.0.1 in omega arith
 
 pub loop-id-smaller : goal.loop-id-smaller
-loop-id-smaller c = let m = ids_more c.loop-id.out _ _ c.args.words.now c.loop-id.next c.loop-id.from _ _ (omega arith) (sym c.in-Some.is ∙ c.next_id.ensures) c.put8.ensures c.put_decimal-next.ensures.0.0 c.put_decimal-next.ensures.0.1 in omega arith
+loop-id-smaller c = let m = ids_more c.loop-id.out _ _ c.args.words.now c.loop-id.next c.loop-id.from _ _ (omega arith) (sym c.in-Some.is ∙ c.next_id.ensures) c.put.ensures c.put_decimal-next.ensures.0.0 c.put_decimal-next.ensures.0.1 in omega arith
 
 pub loop-id-preserved : goal.loop-id-preserved
 loop-id-preserved c =
-    let m = ids_more c.loop-id.out _ _ c.args.words.now c.loop-id.next c.loop-id.from _ _ (omega arith) (sym c.in-Some.is ∙ c.next_id.ensures) c.put8.ensures c.put_decimal-next.ensures.0.0 c.put_decimal-next.ensures.0.1 in
+    let m = ids_more c.loop-id.out _ _ c.args.words.now c.loop-id.next c.loop-id.from _ _ (omega arith) (sym c.in-Some.is ∙ c.next_id.ensures) c.put.ensures c.put_decimal-next.ensures.0.0 c.put_decimal-next.ensures.0.1 in
     record { long = omega arith; below_all = omega arith; below_words = omega arith; room = omega arith; place = c.loop-id.invariant.place ∙ m.0; text = c.loop-id.invariant.text ∙ m.1 }
 
 pub returns-clause-wrote : goal.returns-clause-wrote

@@ -10,4 +10,4 @@ pub finish_held-requires : goal.finish_held-requires
 finish_held-requires c = let a = c.args in let p = c.requires in let n = resumed-few a.sheet.now a.program.now a.rows.now a.names.now a.nodes.now a.name.now a.input.now a.outlines.now p.held_few in record { limited = p.limited; found_few = part-few _ c.resume_scan-n.result 1024 (omega (arith, n, c.resume_scan-n.ensures.0, p.nodes_few)) }
 
 pub returns : goal.returns
-returns c = let a = c.args in let p = c.requires in let n = resumed-few a.sheet.now a.program.now a.rows.now a.names.now a.nodes.now a.name.now a.input.now a.outlines.now p.held_few in given_is _ _ _ _ _ _ _ _ _ _ _ _ _ c.resume_scan-n.ensures (omega (arith, n, p.nodes_few)) c.get32.ensures c.has_content-content.ensures c.finish_held.ensures
+returns c = let a = c.args in let p = c.requires in let n = resumed-few a.sheet.now a.program.now a.rows.now a.names.now a.nodes.now a.name.now a.input.now a.outlines.now p.held_few in given_is _ _ _ _ _ _ _ _ _ _ _ _ _ c.resume_scan-n.ensures (omega (arith, n, p.nodes_few)) c.get.ensures c.has_content-content.ensures c.finish_held.ensures

@@ -3,4 +3,4 @@ use Rattle.shapes.proofs.counts_types.Goals as goal
 
 pub returns : goal.returns
 unfolding types_counted
-returns c = rw c.get32.ensures
+returns c = rw c.get.ensures

@@ -3,4 +3,4 @@ use Rattle.shapes.proofs.is_esi_on.Goals as goal
 
 pub returns : goal.returns
 unfolding esi_on
-returns c = rw c.get32.ensures
+returns c = rw c.get.ensures

@@ -1,7 +1,7 @@
-use Rattle.cells.specs.Stretches.{cells_from}
+use Rattle.cells.specs.Stretches.{cells_or}
 use Rattle.stack.specs.Stores.{fresh_rows}
 use Rattle.waiting.proofs.fresh_rows.Goals as goal
 
 pub returns : goal.returns
-unfolding fresh_rows cells_from
-returns c = c.copy32.ensures
+unfolding fresh_rows cells_or
+returns c = c.copy.ensures

@@ -2,4 +2,4 @@ use Rattle.waiting.proofs.Waits.{copied-law}
 use Rattle.waiting.proofs.held_name.Goals as goal
 
 pub returns : goal.returns
-returns c = copied-law _ _ _ _ _ _ c.at32-n.ensures.0 c.copy8.ensures
+returns c = copied-law _ _ _ _ _ _ c.number_at-n.ensures.0 c.copy.ensures

@@ -3,4 +3,4 @@ use Rattle.waiting.proofs.release.Goals as goal
 
 pub returns : goal.returns
 unfolding written
-returns c = c.put32.ensures
+returns c = c.put.ensures

@@ -7,7 +7,7 @@ pub loop-i-init : goal.loop-i-init
 loop-i-init c = (refl, refl)
 
 pub loop-i-preserved : goal.loop-i-preserved
-loop-i-preserved c = (c.put8.auto.s ∙ c.loop-i.invariant.0, lower-more _ _ _ _ c.loop-i.invariant.1 _ _ (omega arith) c.lower.ensures c.put8.ensures)
+loop-i-preserved c = (c.put.auto.s ∙ c.loop-i.invariant.0, lower-more _ _ _ _ c.loop-i.invariant.1 _ _ (omega arith) c.lower.ensures c.put.ensures)
 
 pub returns : goal.returns
 returns c = lower-end _ _ _ _ c.loop-i.invariant.1 (omega arith)

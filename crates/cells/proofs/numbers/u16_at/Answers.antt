@@ -10,4 +10,4 @@ returns-then-s-at c = (sym (be16-past _ _ c.if-s-at.true), lit< tt)
 
 pub returns : goal.returns
 unfolding be16
-returns c = (rw (c.at8.ensures.0, c.at8-2.ensures.0), omega arith)
+returns c = (rw (c.number_at.ensures.0, c.number_at-2.ensures.0), omega arith)

@@ -22,7 +22,7 @@ pub loop-d-preserved : goal.loop-d-preserved
 loop-d-preserved g c = let r = reached-at _ _ _ _ _ _ _ _ _ _ _ _ c.next_live.ensures c.in-Some.is in let z = r.less in let i = c.loop-d.invariant in record {
   room = let y = i.room in omega (arith, z, y);
   size = let y = i.size in omega (arith, y);
-  going = λ p q j. goes-found _ _ _ _ _ _ (i.going p q j) _ _ _ (scan-finds _ _ _ _ _ p q _ j c.loop-d.c _ _ c.in-Some.d _ _ r _ c.verdict.ensures _ c.next-c.ensures c.in-Matches.is) c.put16.ensures;
+  going = λ p q j. goes-found _ _ _ _ _ _ (i.going p q j) _ _ _ (scan-finds _ _ _ _ _ p q _ j c.loop-d.c _ _ c.in-Some.d _ _ r _ c.verdict.ensures _ c.next-c.ensures c.in-Matches.is) c.put.ensures;
 }
 
 pub returns-in-Asks : goal.returns-in-Asks

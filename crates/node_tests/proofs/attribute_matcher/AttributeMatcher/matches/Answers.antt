@@ -4,4 +4,4 @@ use Rattle.node_tests.proofs.attribute_matcher.AttributeMatcher.matches.Goals as
 
 pub returns : goal.returns
 unfolding attribute_test_holds read_attribute_test opposite
-returns c = rw (← c.is_negated.ensures, ← c.part_of-body.ensures, ← c.get8.ensures, ← c.read.ensures, ← c.holds.ensures) (differs _ _)
+returns c = rw (← c.is_negated.ensures, ← c.part_of-body.ensures, ← c.get.ensures, ← c.read.ensures, ← c.holds.ensures) (differs _ _)

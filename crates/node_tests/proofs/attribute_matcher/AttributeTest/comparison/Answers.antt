@@ -4,4 +4,4 @@ use Rattle.node_tests.proofs.attribute_matcher.AttributeTest.comparison.Goals as
 
 pub returns : goal.returns
 unfolding comparison attribute_test_of
-returns c = rw (c.get8.ensures, c.part_of.ensures, c.part_of-2.ensures, c.at8-end.ensures.0)
+returns c = rw (c.get.ensures, c.part_of.ensures, c.part_of-2.ensures, c.number_at-end.ensures.0)
