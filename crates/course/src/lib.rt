@@ -85,7 +85,10 @@ fn live_ranges(sheet: &[u8], rows: &[u32]) -> Ranges
 fn first_live(sheet: &[u8], rows: &[u32]) -> Cursor
     ensures { result ≡ first_live sheet.now rows.now }
 {
-    Cursor::first(number_at(rows, 16 + number_at(rows, 0) * 8 + 2), u16_at(sheet, 7))
+    Cursor::first(
+        number_at(rows, 16 + number_at(rows, 0) * 8 + 2),
+        u16_at(sheet, 7),
+    )
 }
 
 fn held_cursor(rows: &[u32]) -> Cursor

@@ -84,7 +84,9 @@ pub fn check_push(
     if OPEN_LIMIT <= number_at(rows, OPENS) {
         return Err(Refusal::TooManyOpen);
     }
-    if PARENT_LIMIT < number_at(rows, PARENTS_TOP) + count_parents(program, u16_at(sheet, 5), found) {
+    if PARENT_LIMIT
+        < number_at(rows, PARENTS_TOP) + count_parents(program, u16_at(sheet, 5), found)
+    {
         return Err(Refusal::TooManyMatched);
     }
     Ok(())
