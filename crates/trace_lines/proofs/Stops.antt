@@ -8,7 +8,7 @@ use Rattle.records.specs.Records.{record_end}
 use Rattle.stack.specs.Stores.{Stores}
 use Rattle.answers.specs.Answers.{turn_of}
 use Rattle.replies.specs.Replies.{Turn, saying}
-use Rattle.block_ends.specs.BlockEnds.{fed, cut_fed, begin_of, no_version}
+use Rattle.block_ends.specs.BlockEnds.{fed, cut_fed, begin_of}
 use Rattle.block_ends.specs.declared.Halt.{Halt}
 use Rattle.trace.specs.Run.{ran, bad_run, cut_run, on_cut, on_said, answers_from, feed_by, feed_of}
 use Rattle.trace_lines.specs.Cuttings.{Stops, Stopping}
