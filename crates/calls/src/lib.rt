@@ -3,7 +3,7 @@
 
 ghost use Rattle.std.specs.Prelude.{◌≡◌, ◌+◌, ◌*◌, ◌≤◌, ◌<◌, length};
 
-use case_lines::{least, put_made, put_sets, put_top};
+use case_lines::{put_made, put_sets, put_top};
 use cells::numbers::u32_at;
 use cells::{part_of, put};
 use ends::id_set;
@@ -48,7 +48,7 @@ pub fn make_call(
 {
     let at = s.at;
     let esi = u32_at(input, at + 1);
-    let size = least(u32_at(input, at + 5) * 8, program.len());
+    let size = (u32_at(input, at + 5) * 8).min(program.len());
     let end = string_end(input, at + 9);
     let made = fresh_machine(
         part_of(input, at + 13, end),
@@ -115,7 +115,7 @@ fn read_numbers(input: &[u8], at: usize, n: usize, room: &mut [u32]) -> usize
     requires { (at ≤ 1048576) × (length room.old ≤ 65536) }
     ensures { result ≤ length room.new }
 {
-    let count = least(n, room.len());
+    let count = n.min(room.len());
     let mut i = 0;
     while i < count {
         put(room, i, u32_at(input, at + i * 4) as u32);
@@ -200,7 +200,7 @@ pub fn end_call(
     ensures { (result.at ≤ 262144) × (result.wrote ≤ 143360) × (result.size ≡ s.size) }
 {
     let at = s.at;
-    let room = least(u32_at(input, at + 1), 512);
+    let room = u32_at(input, at + 1).min(512);
     let end = string_end(input, at + 5);
     let name = part_of(input, at + 9, end);
     let sheet = part_of(input, s.sheet, s.sheet_end);

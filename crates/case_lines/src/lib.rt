@@ -9,12 +9,6 @@ use match_lines::put_ids;
 use refusals::Refusal;
 use text::put_text;
 
-pub fn least(a: usize, b: usize) -> usize
-    ensures { (result ≤ a) × (result ≤ b) }
-{
-    if a < b { a } else { b }
-}
-
 pub fn put_made(out: &mut [u8], at: usize, made: Result<(), Unmade>) -> usize
     requires { at ≤ 4294967296 }
     ensures { result ≤ at + 4096 }
@@ -51,7 +45,7 @@ pub fn put_sets(out: &mut [u8], at: usize, popped: &[u64], answer: Result<usize,
     };
     let (sets, _) = popped.as_chunks::<2>();
     let mut next = at;
-    for words in &sets[..least(n, sets.len())] {
+    for words in &sets[..n.min(sets.len())] {
         if 131072 < next {
             return next;
         }

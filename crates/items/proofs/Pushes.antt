@@ -4,11 +4,10 @@ use mathlib.Core.Bool.{Bool, true, false}
 use mathlib.Core.List.{List, [], ◌∷◌}
 use Prim.Native.Nat.{ℕ, suc, ◌+◌, ◌-◌, ◌*◌, ◌<◌, ◌≤◌}
 use native.Mathlib.Omega.{arith}
-use borrow.Author.Tests.{lt-ltb, le-ltb, eq-eqb, ne_eqb}
+use borrow.Author.Tests.{eq-eqb, ne_eqb}
 use lib.ListN.{get_or}
-use lib.Dec.{ltb}
 use Rattle.cells.specs.Stretches.{cells_or, cells_from, written}
-use Rattle.stack.specs.Stores.{holds_name, row_at, name_at, ids_at, id_words, row_word, opens, nearest, through, popped_count, back_to, popped_rows, popped_ids, ids_of_top}
+use Rattle.stack.specs.Stores.{holds_name, row_at, name_at, ids_at, id_words, row_word, opens, nearest, through, popped_count, back_to, popped_rows, popped_ids}
 
 -- ---- how many are popped
 module _ (rows names x : List ℕ) (p : ℕ) (ep : p ≡ nearest rows names x (opens rows)) where
