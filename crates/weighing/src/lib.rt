@@ -84,9 +84,8 @@ pub fn check_push(
     if OPEN_LIMIT <= number_at(rows, OPENS) {
         return Err(Refusal::TooManyOpen);
     }
-    if PARENT_LIMIT
-        < number_at(rows, PARENTS_TOP) + count_parents(program, u16_at(sheet, 5), found)
-    {
+    let parents = number_at(rows, PARENTS_TOP) + count_parents(program, u16_at(sheet, 5), found);
+    if PARENT_LIMIT < parents {
         return Err(Refusal::TooManyMatched);
     }
     Ok(())
