@@ -15,6 +15,14 @@ pub struct Ranges {
     pub limit: u16,
 }
 
+// What a cursor goes over: the program's rows, the lists of matched nodes, and which of these are live.
+#[derive(Clone, Copy)]
+pub struct Live<'p, 'n> {
+    pub program: &'p [u32],
+    pub nodes: &'n [u16],
+    pub ranges: Ranges,
+}
+
 // The stages of a cursor, as the header's word 8 holds them: at the roots or at child ranges, and at descendant ranges.
 // Kept as it is: `held_cursor` promises the number of the header's word 8 whatever it is, so the stage is no enum.
 const AT_CHILDREN: u32 = 0;
@@ -35,24 +43,28 @@ pub struct Cursor {
     pub stop: usize,
 }
 
-// The range of the node in a slot; `word` is where its row has it.
-fn range_at(program: &[u32], nodes: &[u16], word: usize, stage: u32, slot: usize) -> Cursor
-    requires { (word < 8) × (slot < 2 ^ 64 - 1) }
-    ensures { result ≡ range_at program.now nodes.now word stage slot }
-{
-    let node = number_at(nodes, slot);
-    let first = number_at(program, node * 8 + word);
-    let count = number_at(program, node * 8 + word + 1);
-    Cursor {
-        stage,
-        slot: slot + 1,
-        at: first,
-        stop: first + count,
+impl<'p, 'n> Live<'p, 'n> {
+    // The range of the node in a slot; `word` is where its row has it.
+    #[tactic(auto, unfolding(crate::specs::Cursors::range_at))]
+    fn range_at(&self, word: usize, stage: u32, slot: usize) -> Cursor
+        requires { (word < 8) × (slot < 2 ^ 64 - 1) }
+        ensures { result ≡ range_at self.now.program.now self.now.nodes.now word stage slot }
+    {
+        let node = number_at(self.nodes, slot);
+        let first = number_at(self.program, node * 8 + word);
+        let count = number_at(self.program, node * 8 + word + 1);
+        Cursor {
+            stage,
+            slot: slot + 1,
+            at: first,
+            stop: first + count,
+        }
     }
 }
 
 impl Cursor {
     // At the first root; the first node with a child range is in `slot`.
+    #[tactic(auto, unfolding(crate::specs::Cursors::first_cursor))]
     pub fn first(slot: usize, roots: usize) -> Cursor
         ensures { result ≡ first_cursor slot roots }
     {
@@ -65,6 +77,7 @@ impl Cursor {
     }
 
     // Past the instruction that it stands on, if it stands on one.
+    #[tactic(auto, unfolding(crate::specs::Cursors::after_cursor))]
     pub fn next(self) -> Cursor
         ensures { result ≡ after_cursor self }
     {
@@ -79,24 +92,24 @@ impl Cursor {
     }
 
     // The range after the one that it stands in: child ranges first, then descendant ranges.
-    pub fn jump(self, program: &[u32], nodes: &[u16], ranges: Ranges) -> Option<Cursor>
-        ensures { result ≡ jump_of program.now nodes.now ranges self }
+    #[tactic(auto, unfolding(crate::specs::Cursors::jump_of))]
+    pub fn jump<'p, 'n>(self, live: &Live<'p, 'n>) -> Option<Cursor>
+        ensures { result ≡ jump_of live.now.program.now live.now.nodes.now live.now.ranges self }
     {
-        let slot = self.slot;
-        if self.stage == AT_CHILDREN {
-            if slot < ranges.parents_top {
-                return Some(range_at(program, nodes, CHILDREN, AT_CHILDREN, slot));
+        match self.stage {
+            AT_CHILDREN if self.slot < live.ranges.parents_top => {
+                Some(live.range_at(CHILDREN, AT_CHILDREN, self.slot))
             }
-            return Some(Cursor {
+            AT_CHILDREN => Some(Cursor {
                 stage: AT_DESCENDANTS,
-                slot: ranges.ancestors_from,
+                slot: live.ranges.ancestors_from,
                 at: 0,
                 stop: 0,
-            });
+            }),
+            _ if self.slot < live.ranges.ancestors_top => {
+                Some(live.range_at(DESCENDANTS, AT_DESCENDANTS, self.slot))
+            }
+            _ => None,
         }
-        if slot < ranges.ancestors_top {
-            return Some(range_at(program, nodes, DESCENDANTS, AT_DESCENDANTS, slot));
-        }
-        None
     }
 }
