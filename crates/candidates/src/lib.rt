@@ -5,7 +5,7 @@ ghost use Rattle.std.specs.Prelude.{◌≡◌, ◌+◌, ◌≤◌, ◌^◌, max}
 ghost use Rattle.candidates.specs.Candidates.{Reached, affordable, first_keyed};
 
 use cells::get;
-use cursors::{Cursor, Ranges};
+use cursors::{Cursor, Live};
 
 // The words of a row, of which one is the name key.
 const ROW_WORDS: usize = 8;
@@ -38,27 +38,25 @@ fn first_keyed(program: &[u32], key: u32, from: usize, count: usize) -> usize
 }
 
 // The cursor on the next instruction whose key fits, among as many as the budget allows, with the budget for what comes after it.
-pub fn next_candidate(
-    program: &[u32],
-    nodes: &[u16],
-    ranges: Ranges,
+pub fn next_candidate<'p, 'n>(
+    live: &Live<'p, 'n>,
     key: u32,
     from: Cursor,
     budget: usize,
 ) -> Option<(Cursor, usize)>
-    ensures { Reached program.now nodes.now ranges key from budget result }
+    ensures { Reached live.now.program.now live.now.nodes.now live.now.ranges key from budget result }
 {
     let mut c = from;
     let mut left = budget;
     while 0 < left {
-        let count = stretch(c.at, c.stop, ranges.limit, left);
-        let a = first_keyed(program, key, c.at, count);
+        let count = stretch(c.at, c.stop, live.ranges.limit, left);
+        let a = first_keyed(live.program, key, c.at, count);
         if a < c.at + count {
             let found = Cursor { at: a, ..c };
             return Some((found, left - (a - c.at) - 1));
         }
         left -= count;
-        c = c.jump(program, nodes, ranges)?;
+        c = c.jump(live)?;
     }
     None
 }
