@@ -1,6 +1,6 @@
 use native.Mathlib.Omega.{arith}
 use Rattle.exec.proofs.TestBudget.{over-within, past-within, at-within, at-below}
-use Rattle.exec.proofs.scan.next_live.Goals as goal
+use Rattle.exec.proofs.scan.Scan.next.Goals as goal
 
 pub returns-in_err-d : goal.returns-in_err-d
 returns-in_err-d c = rw c.from_residual.ensures (over-within _ _ _ _ _ _ _ c.next_candidate.ensures _ _ c.in_err-d.was)
