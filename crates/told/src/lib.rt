@@ -23,16 +23,22 @@ pub struct Told {
     pub high: u64,
 }
 
+// What every answer begins from.
+const NOTHING: Told = Told {
+    kind: 0,
+    refusal: 0,
+    value: 0,
+    low: 0,
+    high: 0,
+};
+
 // A refusal of a call, by its number.
 fn refused(refusal: Refusal) -> Told
     ensures { result ≡ refused_told (number refusal) 0 }
 {
     Told {
-        kind: 0,
         refusal: refusal.number(),
-        value: 0,
-        low: 0,
-        high: 0,
+        ..NOTHING
     }
 }
 
@@ -43,19 +49,11 @@ impl From<Result<(), Unmade>> for Told {
     #[tactic(auto, unfolding(crate::specs::Told::made_told))]
     fn from(made: Result<(), Unmade>) -> Told {
         match made {
-            Ok(()) => Told {
-                kind: 1,
-                refusal: 0,
-                value: 0,
-                low: 0,
-                high: 0,
-            },
+            Ok(()) => Told { kind: 1, ..NOTHING },
             Err(Unmade::Sheet(fault)) => Told {
-                kind: 0,
                 refusal: u32::from(fault.refusal.number()),
                 value: fault.place as u64,
-                low: 0,
-                high: 0,
+                ..NOTHING
             },
             Err(Unmade::Refused(refusal)) => refused(refusal),
         }
@@ -71,18 +69,12 @@ impl From<Result<Answer, Refusal>> for Told {
         match reply {
             Ok(Answer::Match { ids, content }) => Told {
                 kind: 2,
-                refusal: 0,
                 value: content as u64,
                 low: ids[0],
                 high: ids[1],
+                ..NOTHING
             },
-            Ok(Answer::Attributes) => Told {
-                kind: 3,
-                refusal: 0,
-                value: 0,
-                low: 0,
-                high: 0,
-            },
+            Ok(Answer::Attributes) => Told { kind: 3, ..NOTHING },
             Err(refusal) => refused(refusal),
         }
     }
@@ -97,10 +89,8 @@ impl From<Result<usize, Refusal>> for Told {
         match popped {
             Ok(count) => Told {
                 kind: 4,
-                refusal: 0,
                 value: count as u64,
-                low: 0,
-                high: 0,
+                ..NOTHING
             },
             Err(refusal) => refused(refusal),
         }
@@ -116,18 +106,11 @@ impl From<Result<Option<[u64; 2]>, Refusal>> for Told {
         match top {
             Ok(Some(words)) => Told {
                 kind: 5,
-                refusal: 0,
-                value: 0,
                 low: words[0],
                 high: words[1],
+                ..NOTHING
             },
-            Ok(None) => Told {
-                kind: 6,
-                refusal: 0,
-                value: 0,
-                low: 0,
-                high: 0,
-            },
+            Ok(None) => Told { kind: 6, ..NOTHING },
             Err(refusal) => refused(refusal),
         }
     }
