@@ -38,8 +38,8 @@ fn first_keyed(program: &[u32], key: u32, from: usize, count: usize) -> usize
 }
 
 // The cursor on the next instruction whose key fits, among as many as the budget allows, with the budget for what comes after it.
-pub fn next_candidate<'l>(
-    live: &Live<'l>,
+pub fn next_candidate<'p, 'n>(
+    live: &Live<'p, 'n>,
     key: u32,
     from: Cursor,
     budget: usize,

@@ -10,8 +10,8 @@ ghost use Rattle.course.specs.Course.{kind_of, is_html, has_content, child_posit
 use cells::numbers::u16_at;
 use cells::{get, number_at};
 use counters::{child_count, inc, times};
-use cursors::{Cursor, Ranges};
-use exec::scan::{Scanned, scan_attributes, scan_tag};
+use cursors::{Cursor, Live, Ranges};
+use exec::scan::{Scan, Scanned};
 use names::name_key;
 use node_tests::Tag;
 use node_tests::attribute_matcher::AttributeMatcher;
@@ -114,20 +114,17 @@ pub fn begin_scan(machine: &Machine, name: &[u8], kind: u32, found: &mut [u16]) 
             stopped_at: Some(from),
         };
     }
-    let ranges = live_ranges(machine.sheet, machine.rows);
-    let tag = tag_of(machine.rows, machine.names, name);
-    let key = name_key(name);
-    scan_tag(
-        machine.sheet,
-        machine.program,
-        machine.nodes,
-        ranges,
-        tag,
-        key,
-        from,
-        u16_at(machine.sheet, 5) as u16,
-        found,
-    )
+    let scan = Scan {
+        sheet: machine.sheet,
+        live: Live {
+            program: machine.program,
+            nodes: machine.nodes,
+            ranges: live_ranges(machine.sheet, machine.rows),
+        },
+        tag: tag_of(machine.rows, machine.names, name),
+        key: name_key(name),
+    };
+    scan.by_tag(from, u16_at(machine.sheet, 5) as u16, found)
 }
 
 // All nodes that the waiting tag matches with its attributes: those found before it waited, and those from its cursor on.
@@ -142,24 +139,19 @@ pub fn resume_scan(
     ensures { let m = machine.now in let all = resumed m.sheet.now m.program.now m.rows.now m.names.now m.nodes.now name.now input.now outlines.now in (result ≡ length all) × (found.new ≡ written found.old 0 all) }
 {
     let count = held_found(machine.rows, machine.nodes, found);
-    let ranges = live_ranges(machine.sheet, machine.rows);
-    let tag = tag_of(machine.rows, machine.names, name);
-    let key = name_key(name);
+    let scan = Scan {
+        sheet: machine.sheet,
+        live: Live {
+            program: machine.program,
+            nodes: machine.nodes,
+            ranges: live_ranges(machine.sheet, machine.rows),
+        },
+        tag: tag_of(machine.rows, machine.names, name),
+        key: name_key(name),
+    };
     let html = is_html(get(machine.rows, 6));
     let attributes = AttributeMatcher::new(input, outlines, html);
     let from = held_cursor(machine.rows);
     let budget = (u16_at(machine.sheet, 5) - count) as u16;
-    scan_attributes(
-        machine.sheet,
-        machine.program,
-        machine.nodes,
-        ranges,
-        tag,
-        key,
-        attributes,
-        from,
-        budget,
-        count as u16,
-        found,
-    )
+    scan.with_attributes(attributes, from, budget, count as u16, found)
 }

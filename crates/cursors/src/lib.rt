@@ -17,9 +17,9 @@ pub struct Ranges {
 
 // What a cursor goes over: the program's rows, the lists of matched nodes, and which of these are live.
 #[derive(Clone, Copy)]
-pub struct Live<'l> {
-    pub program: &'l [u32],
-    pub nodes: &'l [u16],
+pub struct Live<'p, 'n> {
+    pub program: &'p [u32],
+    pub nodes: &'n [u16],
     pub ranges: Ranges,
 }
 
@@ -43,7 +43,7 @@ pub struct Cursor {
     pub stop: usize,
 }
 
-impl<'l> Live<'l> {
+impl<'p, 'n> Live<'p, 'n> {
     // The range of the node in a slot; `word` is where its row has it.
     #[tactic(auto, unfolding(crate::specs::Cursors::range_at))]
     fn range_at(&self, word: usize, stage: u32, slot: usize) -> Cursor
@@ -93,7 +93,7 @@ impl Cursor {
 
     // The range after the one that it stands in: child ranges first, then descendant ranges.
     #[tactic(auto, unfolding(crate::specs::Cursors::jump_of))]
-    pub fn jump<'l>(self, live: &Live<'l>) -> Option<Cursor>
+    pub fn jump<'p, 'n>(self, live: &Live<'p, 'n>) -> Option<Cursor>
         ensures { result ≡ jump_of live.now.program.now live.now.nodes.now live.now.ranges self }
     {
         match self.stage {

@@ -30,14 +30,14 @@ enum Verdict {
 
 // A tag's scan: the sheet, what is live, the tag, and the tag's name key.
 #[derive(Clone, Copy)]
-pub struct Scan<'s> {
+pub struct Scan<'s, 'n, 't> {
     pub sheet: &'s [u8],
-    pub live: Live<'s>,
-    pub tag: Tag<'s>,
+    pub live: Live<'s, 'n>,
+    pub tag: Tag<'t>,
     pub key: u32,
 }
 
-impl<'s> Scan<'s> {
+impl<'s, 'n, 't> Scan<'s, 'n, 't> {
     // The cursor on the next instruction whose key fits, if its tests are within the budget of bytes too, with the budget and the bytes of tests that are left after it.
     fn next(&self, from: Cursor, budget: usize, bytes: usize) -> Option<(Cursor, usize, usize)>
         ensures { Within self.now.sheet.now self.now.live.program.now self.now.live.nodes.now self.now.live.ranges self.now.key from budget bytes result }
