@@ -36,7 +36,14 @@ pub fn start_found(
             at: cell_of(cursor.at),
             stop: cell_of(cursor.stop),
         };
-        hold(machine.rows, machine.names, machine.nodes, name, found, held);
+        hold(
+            machine.rows,
+            machine.names,
+            machine.nodes,
+            name,
+            found,
+            held,
+        );
         return Ok(Answer::Attributes);
     }
     let content = has_content(kind, false);
