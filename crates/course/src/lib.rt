@@ -4,6 +4,7 @@
 ghost use Rattle.std.specs.Prelude.{◌≡◌, ◌≤◌, length, get_or};
 ghost use Rattle.cells.specs.Stretches.{written};
 ghost use Rattle.exec.specs.Scans.{answer_from, found_in};
+ghost use Rattle.names.specs.Names.{name_key};
 ghost use Rattle.sheet.specs.Parser.{node_count};
 ghost use Rattle.course.specs.Course.{kind_of, is_html, has_content, child_position, type_position, live_ranges, first_live, held_cursor, begin, resumed};
 
@@ -59,19 +60,6 @@ fn type_position(rows: &[u32], names: &[u8], name: &[u8]) -> u32
     }
 }
 
-// The tag that comes now or waits, as it is tested.
-fn tag_of<'n>(rows: &[u32], names: &[u8], name: &'n [u8]) -> Tag<'n>
-    ensures name { result.name ≡ name.entry }
-    ensures child { result.child ≡ child_position rows.now }
-    ensures of_type { result.of_type ≡ type_position rows.now names.now name.now }
-{
-    Tag {
-        name,
-        child: child_position(rows),
-        of_type: type_position(rows, names, name),
-    }
-}
-
 fn live_ranges(sheet: &[u8], rows: &[u32]) -> Ranges
     ensures { result ≡ live_ranges sheet.now rows.now }
 {
@@ -103,6 +91,33 @@ fn held_cursor(rows: &[u32]) -> Cursor
     }
 }
 
+// The scan of the tag that comes now or waits.
+fn scan_of<'m, 'x, 'n>(machine: &'x Machine<'m>, name: &'n [u8]) -> Scan<'m, 'x, 'n>
+    ensures sheet { result.sheet.now ≡ machine.now.sheet.now }
+    ensures program { result.live.program.now ≡ machine.now.program.now }
+    ensures nodes { result.live.nodes.now ≡ machine.now.nodes.now }
+    ensures ranges { result.live.ranges ≡ live_ranges machine.now.sheet.now machine.now.rows.now }
+    ensures name { result.tag.name.now ≡ name.now }
+    ensures child { result.tag.child ≡ child_position machine.now.rows.now }
+    ensures of_type { result.tag.of_type ≡ type_position machine.now.rows.now machine.now.names.now name.now }
+    ensures key { result.key ≡ name_key name.now }
+{
+    Scan {
+        sheet: machine.sheet,
+        live: Live {
+            program: machine.program,
+            nodes: machine.nodes,
+            ranges: live_ranges(machine.sheet, machine.rows),
+        },
+        tag: Tag {
+            name,
+            child: child_position(machine.rows),
+            of_type: type_position(machine.rows, machine.names, name),
+        },
+        key: name_key(name),
+    }
+}
+
 // The scan of a tag that comes now: HTML with the tag alone; SVG and MathML wait before the first instruction.
 pub fn begin_scan(machine: &Machine, name: &[u8], kind: u32, found: &mut [u16]) -> Scanned
     ensures { let m = machine.now in let sought = begin m.sheet.now m.program.now m.rows.now m.names.now m.nodes.now name.now kind in (result ≡ answer_from 0 sought) × (found.new ≡ written found.old 0 (found_in sought)) }
@@ -114,16 +129,7 @@ pub fn begin_scan(machine: &Machine, name: &[u8], kind: u32, found: &mut [u16]) 
             stopped_at: Some(from),
         };
     }
-    let scan = Scan {
-        sheet: machine.sheet,
-        live: Live {
-            program: machine.program,
-            nodes: machine.nodes,
-            ranges: live_ranges(machine.sheet, machine.rows),
-        },
-        tag: tag_of(machine.rows, machine.names, name),
-        key: name_key(name),
-    };
+    let scan = scan_of(machine, name);
     scan.by_tag(from, u16_at(machine.sheet, 5) as u16, found)
 }
 
@@ -139,16 +145,7 @@ pub fn resume_scan(
     ensures { let m = machine.now in let all = resumed m.sheet.now m.program.now m.rows.now m.names.now m.nodes.now name.now input.now outlines.now in (result ≡ length all) × (found.new ≡ written found.old 0 all) }
 {
     let count = held_found(machine.rows, machine.nodes, found);
-    let scan = Scan {
-        sheet: machine.sheet,
-        live: Live {
-            program: machine.program,
-            nodes: machine.nodes,
-            ranges: live_ranges(machine.sheet, machine.rows),
-        },
-        tag: tag_of(machine.rows, machine.names, name),
-        key: name_key(name),
-    };
+    let scan = scan_of(machine, name);
     let html = is_html(get(machine.rows, 6));
     let attributes = AttributeMatcher::new(input, outlines, html);
     let from = held_cursor(machine.rows);
