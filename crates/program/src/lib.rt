@@ -118,8 +118,8 @@ fn put_row(store: &mut [u32], slot: usize, row: Row)
         row.descendants.count,
         row.key,
     ];
-    for i in 0..ROW_WORDS {
-        put(store, slot * ROW_WORDS + i, words[i]);
+    for (i, &word) in words.iter().enumerate() {
+        put(store, slot * ROW_WORDS + i, word);
     }
 }
 
