@@ -1,1 +1,2 @@
 pub mod BlockEnds
+pub mod Places

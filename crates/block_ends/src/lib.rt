@@ -2,6 +2,8 @@
 #![tactic(auto)]
 
 ghost use Rattle.std.specs.Prelude.{◌≡◌, ◌+◌, ◌≤◌, length, IfSome};
+ghost use Rattle.text.specs.Places.{IsBufferPlace};
+ghost use Rattle.block_ends.specs.Places.{IsTracePlace};
 ghost use Rattle.block_ends.specs.BlockEnds.{bad_fed, bad_out, cut_fed, cut_out, begin_of};
 
 use lines::put_bad_trace;
@@ -24,7 +26,7 @@ pub struct Fed {
 
 // `bad trace` and the place of the record that starts at `at` of the block.
 pub fn bad_trace(out: &mut [u8], at: usize, wrote: usize, place: u64) -> Fed
-    requires { (wrote ≤ 4294967296) × (at ≤ 4294967296) × (place ≤ 9223372036854775808) }
+    requires { IsBufferPlace wrote × IsBufferPlace at × IsTracePlace place }
     ensures value { (result ≡ bad_fed place at wrote) × (out.new ≡ bad_out place at wrote out.old) }
     ensures used_value { (result.used ≡ at) × (result.wrote ≤ wrote + 34) }
 {
@@ -37,7 +39,7 @@ pub fn bad_trace(out: &mut [u8], at: usize, wrote: usize, place: u64) -> Fed
 
 // A record that is cut, or no version: faulty where no bytes come after it.
 pub fn cut_short(out: &mut [u8], at: usize, wrote: usize, place: u64, last: bool) -> Fed
-    requires { (wrote ≤ 4294967296) × (at ≤ 4294967296) × (place ≤ 9223372036854775808) }
+    requires { IsBufferPlace wrote × IsBufferPlace at × IsTracePlace place }
     ensures value { (result ≡ cut_fed last place at wrote) × (out.new ≡ cut_out last place at wrote out.old) }
     ensures used_value { (result.used ≡ at) × (result.wrote ≤ wrote + 34) }
 {

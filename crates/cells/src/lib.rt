@@ -22,6 +22,7 @@ pub trait Cell: Copy + Drop {
         ensures bound { result < limit };
 }
 
+// Kept as it is: the four impls differ in the type alone, but an impl by a macro of the repository is refused, and no conversion of std takes each of them, u64 too, to usize.
 impl Cell for u8 {
     ghost empty = { 0 };
 

@@ -4,6 +4,7 @@ ghost use Rattle.cells.specs.Numbers.{be16, be32, i32_at};
 
 use crate::number_at;
 
+// Kept as it is: std's from_be_bytes takes whole arrays, and a byte past the end has to read as 0 (`be16`, `be32`).
 pub fn u16_at(s: &[u8], at: usize) -> usize
     ensures { (result ≡ be16 s.now at) × (result < 2 ^ 16) }
 {

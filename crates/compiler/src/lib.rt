@@ -3,8 +3,9 @@
 //! name and not a name of kind 18 (E4).
 #![tactic(auto)]
 
-ghost use Rattle.std.specs.Prelude.{◌≡◌, ◌≤◌, length};
+ghost use Rattle.std.specs.Prelude.{◌≡◌, length};
 ghost use Rattle.refusals.specs.Numbers.{judged};
+ghost use Rattle.sheet.specs.Places.{IsSheetPlace};
 ghost use Rattle.sheet.specs.Parser.{parse_sheet};
 ghost use Rattle.compiler.specs.Placing.{lay_at, lay_trees, Room, RecordsInside, records_use};
 ghost use Rattle.compiler.specs.Compiler.{compiled_of, store_of};
@@ -25,7 +26,7 @@ struct Placed {
 
 // Is a test of kind 5 in one of `count` records, one after the other from `at` on?
 fn uses_nth_of_type(s: &[u8], count: usize, at: usize) -> bool
-    requires { (length s.now ≤ 65536) × RecordsInside s.now count at }
+    requires { IsSheetPlace (length s.now) × RecordsInside s.now count at }
     ensures { result ≡ records_use s.now count at }
 {
     let mut here = at;
@@ -43,7 +44,7 @@ fn uses_nth_of_type(s: &[u8], count: usize, at: usize) -> bool
 // The node whose record is at `here`, into its slot, all below it from what is free on.
 #[cycle(compile_node_compile_nodes)]
 fn compile_node(s: &[u8], store: &mut [u32], depth: usize, slot: usize, here: Placed) -> Placed
-    requires s_len_bound { length s.now ≤ 65536 }
+    requires s_len_bound { IsSheetPlace (length s.now) }
     requires room { Room s.now depth 1 here.next slot here.free }
     ensures next_value { result.next ≡ (lay_at depth s.now here.next slot here.free store.old).next }
     ensures free_value { result.free ≡ (lay_at depth s.now here.next slot here.free store.old).free }
@@ -78,7 +79,7 @@ fn compile_nodes(
     slot: usize,
     start: Placed,
 ) -> Placed
-    requires s_len_bound { length s.now ≤ 65536 }
+    requires s_len_bound { IsSheetPlace (length s.now) }
     requires room { Room s.now depth count start.next slot start.free }
     ensures next_value { result.next ≡ (lay_trees depth s.now count start.next slot start.free store.old).next }
     ensures free_value { result.free ≡ (lay_trees depth s.now count start.next slot start.free store.old).free }

@@ -1,6 +1,7 @@
 //! The tests of one instruction, read from its row and from the sheet (program.rs: `Instruction`).
 ghost use Rattle.std.specs.Fn.{FnReturnsAt};
 ghost use Rattle.std.specs.Prelude.{◌≡◌, List, ℕ, Bool, ◌+◌, ◌-◌, ◌<◌, ◌≤◌, ◌^◌};
+ghost use Rattle.cells.specs.Numbers.{IsPlace};
 ghost use Rattle.rules.specs.Attributes.{attributes_of};
 ghost use Rattle.instructions.specs.Instructions.{row_word, tests_hold, test_end, tests_end, tag_count, attribute_count, tag_tests_pass, attribute_passes, asks};
 
@@ -65,7 +66,7 @@ fn tests_hold<F: Fn(&[u8]) -> bool>(sheet: &[u8], count: usize, from: usize, pas
 
 // Where so many tests end.
 fn tests_end(sheet: &[u8], count: usize, from: usize) -> usize
-    requires { (count < 2 ^ 9) × (from < 2 ^ 48) }
+    requires { (count < 2 ^ 9) × IsPlace from }
     ensures { (result ≡ tests_end sheet.now count from) × ((from ≤ result) × (result < 2 ^ 49)) }
 {
     let mut at = from;

@@ -2,13 +2,14 @@
 #![tactic(auto)]
 
 ghost use Rattle.std.specs.Prelude.{◌≡◌, ◌+◌, ◌≤◌, length};
+ghost use Rattle.text.specs.Places.{IsBufferPlace};
 ghost use Rattle.text.specs.Text.{Wrote};
 ghost use Rattle.lines.specs.Lines.{attrs_line, number_line, pop_line, refused_line, sheet_line, bad_trace_line};
 
 use text::{put_decimal, put_text};
 
 pub fn put_attrs(out: &mut [u8], at: usize) -> usize
-    requires { at ≤ 4294967296 }
+    requires { IsBufferPlace at }
     ensures { Wrote out.old at attrs_line result out.new }
 {
     put_text(out, at, b"attrs\n")
@@ -26,7 +27,7 @@ fn put_number(out: &mut [u8], at: usize, word: &[u8], n: u64) -> usize
 }
 
 pub fn put_pop(out: &mut [u8], at: usize, n: usize) -> usize
-    requires { at ≤ 4294967296 }
+    requires { IsBufferPlace at }
     ensures wrote { Wrote out.old at (pop_line n) result out.new }
     ensures upper_bound { result ≤ at + 25 }
 {
@@ -34,7 +35,7 @@ pub fn put_pop(out: &mut [u8], at: usize, n: usize) -> usize
 }
 
 pub fn put_refused(out: &mut [u8], at: usize, n: u32) -> usize
-    requires { at ≤ 4294967296 }
+    requires { IsBufferPlace at }
     ensures wrote { Wrote out.old at (refused_line n) result out.new }
     ensures upper_bound { result ≤ at + 29 }
 {
@@ -42,7 +43,7 @@ pub fn put_refused(out: &mut [u8], at: usize, n: u32) -> usize
 }
 
 pub fn put_sheet_refused(out: &mut [u8], at: usize, n: u8, place: usize) -> usize
-    requires { at ≤ 4294967296 }
+    requires { IsBufferPlace at }
     ensures wrote { Wrote out.old at (sheet_line n place) result out.new }
     ensures upper_bound { result ≤ at + 59 }
 {
@@ -52,7 +53,7 @@ pub fn put_sheet_refused(out: &mut [u8], at: usize, n: u8, place: usize) -> usiz
 }
 
 pub fn put_bad_trace(out: &mut [u8], at: usize, place: u64) -> usize
-    requires { at ≤ 4294967296 }
+    requires { IsBufferPlace at }
     ensures wrote { Wrote out.old at (bad_trace_line place) result out.new }
     ensures upper_bound { result ≤ at + 34 }
 {

@@ -3,6 +3,7 @@
 
 ghost use Rattle.std.specs.Prelude.{◌≡◌, ◌+◌, ◌*◌, ◌≤◌, length};
 ghost use Rattle.id_sets.specs.Ids.{ids_of};
+ghost use Rattle.text.specs.Places.{IsBufferPlace};
 ghost use Rattle.text.specs.Text.{Wrote};
 ghost use Rattle.match_lines.specs.MatchLines.{ids_text, match_line};
 
@@ -28,7 +29,7 @@ pub fn put_ids(out: &mut [u8], at: usize, words: &[u64]) -> usize
 
 // `match`, the ids, then `content` or `void`.
 pub fn put_match(out: &mut [u8], at: usize, words: &[u64], content: bool) -> usize
-    requires { at ≤ 4294967296 }
+    requires { IsBufferPlace at }
     ensures wrote { Wrote out.old at (match_line words.now content) result out.new }
     ensures upper_bound { result ≤ at + 14 + 1344 * length words.now }
 {

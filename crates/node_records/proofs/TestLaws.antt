@@ -1,5 +1,5 @@
 -- One turn of the loop over tests.
-use Rattle.std.proofs.Common.{◌≡◌, ℕ, suc, ◌+◌, List, Bool, refl, add-one}
+use Rattle.std.proofs.Common.{◌≡◌, ℕ, ◌+◌, List, Bool, add-one}
 use Rattle.node_records.specs.Checks.{then_step, check_test, check_tests}
 use Rattle.refusals.specs.Numbers.{Judged}
 

@@ -1,2 +1,3 @@
+pub mod LengthFields
 pub mod Records
 pub mod Checks

@@ -1,7 +1,8 @@
 //! The checks of one node's record: refusals 8 to 12 with their places (01, sections 1 and 2).
 #![tactic(auto)]
 
-ghost use Rattle.std.specs.Prelude.{◌≡◌, ◌+◌, ◌≤◌, length};
+ghost use Rattle.std.specs.Prelude.{◌≡◌, ◌+◌, ◌≤◌};
+ghost use Rattle.node_records.specs.LengthFields.{HoldsLengthField};
 ghost use Rattle.node_records.specs.Records.{counts_at};
 ghost use Rattle.refusals.specs.Numbers.{judged};
 ghost use Rattle.node_records.specs.Checks.{kind_ok, name_length_ok, comparison_ok, body_ok, check_test, check_tests, rising, check_counts, check_ids, check_record, counts_of};
@@ -9,6 +10,15 @@ ghost use Rattle.node_records.specs.Checks.{kind_ok, name_length_ok, comparison_
 use cells::numbers::u16_at;
 use cells::{get, number_at, part_of};
 use refusals::{Fault, SheetRefusal};
+
+// A node's record in a sheet: its length field stands at `at`, and it ends at `end`.
+#[derive(Clone, Copy)]
+struct Record<'s> {
+    sheet: &'s [u8],
+    at: usize,
+    end: usize,
+    ghost length_field: { at + 2 ≤ end },
+}
 
 /// Where a record ends, and how many child trees and descendant trees follow it.
 #[derive(Clone, Copy)]
@@ -56,61 +66,6 @@ fn body_ok(kind: u8, body: &[u8]) -> bool
     }
 }
 
-// The test at `at` of the node at `node`, whose record ends at `end`.
-#[tactic(auto, unfolding(crate::specs::Checks::check_test))]
-fn check_test(
-    s: &[u8],
-    node: usize,
-    end: usize,
-    attributes: bool,
-    at: usize,
-) -> Result<usize, Fault>
-    requires { 2 ≤ end }
-    ensures { judged result ≡ check_test s.now node end attributes at }
-{
-    if end - 2 < at {
-        return Err(SheetRefusal::RecordOverrun.at(node));
-    }
-    let n = u16_at(s, at);
-    if end - 2 - at < n {
-        return Err(SheetRefusal::RecordOverrun.at(node));
-    }
-    if n < 2 {
-        return Err(SheetRefusal::BadTest.at(at));
-    }
-    let kind = get(s, at + 2);
-    if !kind_ok(attributes, kind) {
-        return Err(SheetRefusal::UnknownKind.at(at));
-    }
-    if 1 < number_at(s, at + 3) {
-        return Err(SheetRefusal::BadTest.at(at));
-    }
-    if !body_ok(kind, part_of(s, at + 4, at + 2 + n)) {
-        return Err(SheetRefusal::BadTest.at(at));
-    }
-    Ok(at + 2 + n)
-}
-
-// As many tests as `count` says, from `at` on.
-#[tactic(auto, unfolding(crate::specs::Checks::check_tests, crate::specs::Checks::then_step))]
-fn check_tests(
-    s: &[u8],
-    node: usize,
-    end: usize,
-    attributes: bool,
-    count: usize,
-    at: usize,
-) -> Result<usize, Fault>
-    requires { 2 ≤ end }
-    ensures { judged result ≡ check_tests s.now node end attributes count at }
-{
-    let mut here = at;
-    for _ in 0..count {
-        here = check_test(s, node, end, attributes, here)?;
-    }
-    Ok(here)
-}
-
 // Do the ids rise strictly, none above 127?
 #[tactic(auto, unfolding(crate::specs::Checks::rising))]
 fn ids_rise(ids: &[u8]) -> bool
@@ -126,58 +81,99 @@ fn ids_rise(ids: &[u8]) -> bool
     true
 }
 
-// The record at `node`, which ends at `end`, from its four numbers at `p` on.
-#[tactic(auto, unfolding(crate::specs::Checks::check_counts, crate::specs::Checks::then_step, crate::specs::Checks::counts_of))]
-fn check_counts(s: &[u8], node: usize, end: usize, p: usize) -> Result<Links, Fault>
-    requires { (2 ≤ end) × (p ≤ end) }
-    ensures { judged result ≡ counts_of s.now p (check_counts s.now node end p) }
-{
-    if end - p < 2 {
-        return Err(SheetRefusal::RecordOverrun.at(node));
+impl<'s> Record<'s> {
+    // The test at `at`, in the group of attribute tests or of tag tests.
+    #[tactic(auto, unfolding(crate::specs::Checks::check_test))]
+    fn check_test(self, attributes: bool, at: usize) -> Result<usize, Fault>
+        ensures { judged result ≡ check_test self.entry.sheet.now self.entry.at self.entry.end attributes at }
+    {
+        if self.end - 2 < at {
+            return Err(SheetRefusal::RecordOverrun.at(self.at));
+        }
+        let n = u16_at(self.sheet, at);
+        if self.end - 2 - at < n {
+            return Err(SheetRefusal::RecordOverrun.at(self.at));
+        }
+        if n < 2 {
+            return Err(SheetRefusal::BadTest.at(at));
+        }
+        let kind = get(self.sheet, at + 2);
+        if !kind_ok(attributes, kind) {
+            return Err(SheetRefusal::UnknownKind.at(at));
+        }
+        if 1 < number_at(self.sheet, at + 3) {
+            return Err(SheetRefusal::BadTest.at(at));
+        }
+        if !body_ok(kind, part_of(self.sheet, at + 4, at + 2 + n)) {
+            return Err(SheetRefusal::BadTest.at(at));
+        }
+        Ok(at + 2 + n)
     }
-    let tags = number_at(s, p);
-    let attributes = number_at(s, p + 1);
-    if tags + attributes == 0 {
-        return Err(SheetRefusal::NoTest.at(node));
-    }
-    if end - p < 6 {
-        return Err(SheetRefusal::RecordOverrun.at(node));
-    }
-    let middle = check_tests(s, node, end, false, tags, p + 6)?;
-    let last = check_tests(s, node, end, true, attributes, middle)?;
-    if last != end {
-        return Err(SheetRefusal::RecordOverrun.at(node));
-    }
-    Ok(Links {
-        next: end,
-        children: u16_at(s, p + 2),
-        descendants: u16_at(s, p + 4),
-    })
-}
 
-// The record at `node`, which ends at `end`, from its ids on.
-#[tactic(auto, unfolding(crate::specs::Checks::check_ids, crate::specs::Checks::counts_of))]
-fn check_ids(s: &[u8], node: usize, end: usize) -> Result<Links, Fault>
-    requires { node + 2 ≤ end }
-    ensures { judged result ≡ counts_of s.now (counts_at s.now node) (check_ids s.now node end) }
-{
-    if end - node < 3 {
-        return Err(SheetRefusal::RecordOverrun.at(node));
+    // As many tests as `count` says, from `at` on.
+    #[tactic(auto, unfolding(crate::specs::Checks::check_tests, crate::specs::Checks::then_step))]
+    fn check_tests(self, attributes: bool, count: usize, at: usize) -> Result<usize, Fault>
+        ensures { judged result ≡ check_tests self.entry.sheet.now self.entry.at self.entry.end attributes count at }
+    {
+        let mut here = at;
+        for _ in 0..count {
+            here = self.check_test(attributes, here)?;
+        }
+        Ok(here)
     }
-    let count = number_at(s, node + 2);
-    if end - node - 3 < count {
-        return Err(SheetRefusal::RecordOverrun.at(node));
+
+    // From its four numbers at `p` on.
+    #[tactic(auto, unfolding(crate::specs::Checks::check_counts, crate::specs::Checks::then_step, crate::specs::Checks::counts_of))]
+    fn check_counts(self, p: usize) -> Result<Links, Fault>
+        requires { p ≤ self.end }
+        ensures { judged result ≡ counts_of self.entry.sheet.now p (check_counts self.entry.sheet.now self.entry.at self.entry.end p) }
+    {
+        if self.end - p < 2 {
+            return Err(SheetRefusal::RecordOverrun.at(self.at));
+        }
+        let tags = number_at(self.sheet, p);
+        let attributes = number_at(self.sheet, p + 1);
+        if tags + attributes == 0 {
+            return Err(SheetRefusal::NoTest.at(self.at));
+        }
+        if self.end - p < 6 {
+            return Err(SheetRefusal::RecordOverrun.at(self.at));
+        }
+        let middle = self.check_tests(false, tags, p + 6)?;
+        let last = self.check_tests(true, attributes, middle)?;
+        if last != self.end {
+            return Err(SheetRefusal::RecordOverrun.at(self.at));
+        }
+        Ok(Links {
+            next: self.end,
+            children: u16_at(self.sheet, p + 2),
+            descendants: u16_at(self.sheet, p + 4),
+        })
     }
-    if !ids_rise(part_of(s, node + 3, node + 3 + count)) {
-        return Err(SheetRefusal::BadIds.at(node));
+
+    // From its ids on.
+    #[tactic(auto, unfolding(crate::specs::Checks::check_ids, crate::specs::Checks::counts_of))]
+    fn check_ids(self) -> Result<Links, Fault>
+        ensures { judged result ≡ counts_of self.entry.sheet.now (counts_at self.entry.sheet.now self.entry.at) (check_ids self.entry.sheet.now self.entry.at self.entry.end) }
+    {
+        if self.end - self.at < 3 {
+            return Err(SheetRefusal::RecordOverrun.at(self.at));
+        }
+        let count = number_at(self.sheet, self.at + 2);
+        if self.end - self.at - 3 < count {
+            return Err(SheetRefusal::RecordOverrun.at(self.at));
+        }
+        if !ids_rise(part_of(self.sheet, self.at + 3, self.at + 3 + count)) {
+            return Err(SheetRefusal::BadIds.at(self.at));
+        }
+        self.check_counts(self.at + 3 + count)
     }
-    check_counts(s, node, end, node + 3 + count)
 }
 
 // The record at `at`.
 #[tactic(auto, unfolding(crate::specs::Checks::check_record, crate::specs::Checks::counts_of))]
 pub fn check_record(s: &[u8], at: usize) -> Result<Links, Fault>
-    requires { 2 ≤ length s.now }
+    requires { HoldsLengthField s.now }
     ensures { judged result ≡ counts_of s.now (counts_at s.now at) (check_record s.now at) }
 {
     if s.len() - 2 < at {
@@ -187,5 +183,10 @@ pub fn check_record(s: &[u8], at: usize) -> Result<Links, Fault>
     if s.len() - 2 - at < n {
         return Err(SheetRefusal::RecordOverrun.at(at));
     }
-    check_ids(s, at, at + 2 + n)
+    let record = Record {
+        sheet: s,
+        at,
+        end: at + 2 + n,
+    };
+    record.check_ids()
 }

@@ -6,6 +6,7 @@ ghost use Rattle.std.proofs.lemmas.List.Edits.{sets};
 ghost use Rattle.node_tests.specs.Tests.{read_tag_test};
 ghost use Rattle.node_records.specs.Records.{end_of, tests_from, child_count, descendant_count};
 ghost use Rattle.sheet.specs.Meaning.{of_type};
+ghost use Rattle.sheet.specs.Places.{IsSheetPlace};
 ghost use Rattle.sheet.specs.Spelling.{TestsInside, Inside};
 ghost use Rattle.program.specs.Program.{test_key, node_key, words, row, any_of_type, instruction_at};
 
@@ -37,7 +38,7 @@ fn test_key(test: &[u8]) -> u32
 // The name key of the `count` tests at `at`: the first one's.
 #[tactic(auto, using(crate::proofs::TestLaws::first_key, crate::proofs::TestLaws::no_key))]
 fn node_key(s: &[u8], count: usize, at: usize) -> u32
-    requires { at ≤ 65536 }
+    requires { IsSheetPlace at }
     ensures { result ≡ node_key (map read_tag_test (tests_from s.now count at)) }
 {
     match count {
@@ -55,7 +56,7 @@ fn is_of_type(test: &[u8]) -> bool
 
 // Is a test of kind 5 among the `count` tests at `at`, which end before `end`?
 pub fn any_of_type(s: &[u8], end: usize, count: usize, at: usize) -> bool
-    requires { (end ≤ 65536) × TestsInside s.now end count at }
+    requires { IsSheetPlace end × TestsInside s.now end count at }
     ensures { result ≡ any_of_type (map read_tag_test (tests_from s.now count at)) }
 {
     let mut here = at;
@@ -71,7 +72,7 @@ pub fn any_of_type(s: &[u8], end: usize, count: usize, at: usize) -> bool
 
 /// What follows the record at `at`, which stands in a good sheet.
 pub fn links_at(s: &[u8], at: usize) -> Links
-    requires { (length s.now ≤ 65536) × Inside s.now at }
+    requires { IsSheetPlace (length s.now) × Inside s.now at }
     ensures next_value { result.next ≡ end_of s.now at }
     ensures children_value { result.children ≡ child_count s.now at }
     ensures descendants_value { result.descendants ≡ descendant_count s.now at }
@@ -117,8 +118,8 @@ fn put_row(store: &mut [u32], slot: usize, row: Row)
         row.descendants.count,
         row.key,
     ];
-    for i in 0..ROW_WORDS {
-        put(store, slot * ROW_WORDS + i, words[i]);
+    for (i, &word) in words.iter().enumerate() {
+        put(store, slot * ROW_WORDS + i, word);
     }
 }
 
@@ -131,7 +132,7 @@ pub fn put_instruction(
     children: usize,
     descendants: usize,
 )
-    requires s_len_bound { (length s.now ≤ 65536) × Inside s.now at }
+    requires s_len_bound { IsSheetPlace (length s.now) × Inside s.now at }
     requires slot_bound { (slot ≤ 1024) × ((children ≤ 1024) × (descendants ≤ 1024)) }
     ensures { store.new ≡ sets store.old (slot * 8) (row (instruction_at s.now at children descendants)) }
 {

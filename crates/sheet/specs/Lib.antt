@@ -1,3 +1,4 @@
 pub mod Parser
 pub mod Meaning
 pub mod Spelling
+pub mod Places

@@ -1,8 +1,9 @@
 //! The sheet checker: its trees and the whole sheet, refusals 1 to 7 and 13 with their places, and 8 to 12 of its records (01, sections 1 and 2).
 #![tactic(auto)]
 
-ghost use Rattle.std.specs.Prelude.{◌≡◌, ◌≤◌, length};
+ghost use Rattle.std.specs.Prelude.{◌≡◌};
 ghost use Rattle.meaning.specs.Trees.{size};
+ghost use Rattle.node_records.specs.LengthFields.{HoldsLengthField};
 ghost use Rattle.refusals.specs.Numbers.{judged};
 ghost use Rattle.sheet.specs.Parser.{walk_of, tree_size, tree_at, parse_trees, checked_of, parse_sheet};
 
@@ -32,7 +33,7 @@ struct Walked {
 #[tactic(auto, unfolding(crate::specs::Parser::tree_at, crate::specs::Parser::parse_tree, crate::specs::Parser::walk_of))]
 #[cycle(check_tree_check_trees)]
 fn check_tree(s: &[u8], total: usize, depth: usize, here: Walked) -> Result<Walked, Fault>
-    requires { 2 ≤ length s.now }
+    requires { HoldsLengthField s.now }
     ensures { judged result ≡ walk_of tree_size here.used (tree_at depth s.now total here.next here.used) }
 {
     if depth == 0 {
@@ -59,7 +60,7 @@ fn check_trees(
     count: usize,
     start: Walked,
 ) -> Result<Walked, Fault>
-    requires { 2 ≤ length s.now }
+    requires { HoldsLengthField s.now }
     ensures { judged result ≡ walk_of size start.used (parse_trees depth s.now total count start.next start.used) }
 {
     let mut here = start;

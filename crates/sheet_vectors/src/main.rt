@@ -12,7 +12,7 @@ use std::fs;
 use std::io::{Read, Result, Write, writer};
 use std::process::ExitCode;
 use std::rt::Files;
-use streams::{read_between, read_full};
+use streams::read_full;
 
 #[derive(Clone, Copy)]
 enum Verdict {
@@ -49,9 +49,11 @@ fn judge(s: &[u8], store: &mut [u32], number: u8, place: usize) -> Verdict {
 }
 
 // Reads a case and judges it.
-fn replay<R: Read>(reader: &mut R, sheet: &mut [u8], store: &mut [u32]) -> Result<Verdict>
-    requires { (length sheet.old ≡ 65536) × (length store.old ≡ 8192) }
-{
+fn replay<R: Read>(
+    reader: &mut R,
+    sheet: &mut [u8; 65536],
+    store: &mut [u32; 8192],
+) -> Result<Verdict> {
     let mut head = [0u8; 11];
     let got = read_full(reader, &mut head)?;
     if got == 0 {
@@ -65,7 +67,7 @@ fn replay<R: Read>(reader: &mut R, sheet: &mut [u8], store: &mut [u32]) -> Resul
     if 65536 < n || 1024 < places {
         return Ok(Verdict::Broken);
     }
-    if read_between(reader, sheet, 0, n)? < n {
+    if read_full(reader, &mut sheet[0..n])? < n {
         return Ok(Verdict::Broken);
     }
     let end = places * 8;
@@ -81,11 +83,9 @@ fn say<W: Write>(to: &mut W, word: &[u8], n: u64, rest: &[u8]) -> Result<()> {
 fn replay_all<R: Read, W: Write>(
     reader: &mut R,
     to: &mut W,
-    sheet: &mut [u8],
-    store: &mut [u32],
-) -> Result<()>
-    requires { (length sheet.old ≡ 65536) × (length store.old ≡ 8192) }
-{
+    sheet: &mut [u8; 65536],
+    store: &mut [u32; 8192],
+) -> Result<()> {
     for n in 0..1_000_000_000u64 {
         match replay(reader, sheet, store)? {
             Verdict::Agrees => {}

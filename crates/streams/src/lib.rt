@@ -31,6 +31,7 @@ pub fn read_some<R: Read>(reader: &mut R, room: &mut [u8]) -> Result<usize>
 }
 
 // One read behind the first `kept` bytes, which stay.
+// Kept as it is: its clauses say of the whole room what stays and what is read, as trace_blocks' refill promises it; a part passed by the caller was tried, and its goals stayed open.
 pub fn read_behind<R: Read>(reader: &mut R, room: &mut [u8], kept: usize) -> Result<usize>
     requires { kept ≤ length room.old }
     ensures front { take kept room.new ≡ take kept room.old }
@@ -63,6 +64,7 @@ pub fn read_full<R: Read>(reader: &mut R, room: &mut [u8]) -> Result<usize>
 }
 
 // Reads into the bytes from `from` up to `to` until they are full or the input ends, and answers how many bytes it put there.
+// Kept as it is: as for read_behind, its clauses say of the whole room what stays and what is read, as read_sheet of trace_blocks promises it.
 pub fn read_between<R: Read>(
     reader: &mut R,
     room: &mut [u8],

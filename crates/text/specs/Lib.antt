@@ -1,2 +1,3 @@
+pub mod Places
 pub mod Text
 pub mod DigitLaws

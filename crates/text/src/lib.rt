@@ -2,12 +2,14 @@
 #![tactic(auto)]
 
 ghost use Rattle.std.specs.Prelude.{◌≡◌, ◌+◌, ◌≤◌, length};
+ghost use Rattle.text.specs.Places.{IsTextPlace};
 ghost use Rattle.text.specs.Text.{digits, decimal, Wrote};
 
 use cells::put;
 
+// Kept as it is: memory is fixed, so text goes into a lent buffer from a place on, as `Wrote` says, and what is past its end is lost; a String or a Display has no place.
 pub fn put_text(out: &mut [u8], at: usize, text: &[u8]) -> usize
-    requires { (at ≤ 8589934592) × (length text.now ≤ 65536) }
+    requires { IsTextPlace at × (length text.now ≤ 65536) }
     ensures { Wrote out.old at text.now result out.new }
 {
     for (i, b) in text.iter().enumerate() {
@@ -18,7 +20,7 @@ pub fn put_text(out: &mut [u8], at: usize, text: &[u8]) -> usize
 
 // The last k digits of n, no zeros in front.
 fn put_digits(out: &mut [u8], at: usize, k: usize, n: u64) -> usize
-    requires { (at ≤ 8589934592) × (k ≤ 20) }
+    requires { IsTextPlace at × (k ≤ 20) }
     ensures { Wrote out.old at (digits k n) result out.new × (result ≤ at + k) }
 {
     if k == 0 {
@@ -34,7 +36,7 @@ fn put_digits(out: &mut [u8], at: usize, k: usize, n: u64) -> usize
 }
 
 pub fn put_decimal(out: &mut [u8], at: usize, n: u64) -> usize
-    requires { at ≤ 8589934592 }
+    requires { IsTextPlace at }
     ensures { Wrote out.old at (decimal n) result out.new × (result ≤ at + 20) }
 {
     put_digits(out, at, 20, n)

@@ -54,6 +54,7 @@ pub fn release(rows: &mut [u32])
 }
 
 // The name of the waiting tag; the answer is its length.
+// Kept as it is: memory is fixed and cells past the store's end read as 0, so the name is no part of the store that a slice could lend; it is copied out.
 pub fn held_name(rows: &[u32], names: &[u8], out: &mut [u8]) -> usize
     ensures { (result ≡ get_or rows.now 5 0) × (out.new ≡ written out.old 0 (held_name rows.now names.now)) }
 {
@@ -63,6 +64,7 @@ pub fn held_name(rows: &[u32], names: &[u8], out: &mut [u8]) -> usize
 }
 
 // The nodes found so far; the answer is how many.
+// Kept as it is: as for the name, cells past the store's end read as 0, so the nodes are copied out into a lent buffer.
 pub fn held_found(rows: &[u32], nodes: &[u16], out: &mut [u16]) -> usize
     ensures { (result ≡ get_or rows.now 7 0) × (out.new ≡ written out.old 0 (held_found rows.now nodes.now)) }
 {
