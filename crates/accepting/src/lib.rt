@@ -2,7 +2,7 @@
 #![tactic(auto)]
 
 ghost use Rattle.std.specs.Prelude.{◌≡◌, ◌≤◌, length};
-ghost use Rattle.stack.specs.Stores.{stores};
+ghost use Rattle.stack.specs.Lent.{contents, SameLoans};
 ghost use Rattle.weighing.specs.Weighing.{push_refusal};
 ghost use Rattle.accepting.specs.Accepting.{answer_reply, Limited, outcome, accepted};
 
@@ -11,6 +11,7 @@ use counters::add_child;
 use instructions::ids::gather_ids;
 use pushes::push_item;
 use shapes::counts_types;
+use stack::machine::Machine;
 
 /// The answer to a start tag or to attributes: it matches, with its ids and the content flag; or it waits for its attributes.
 #[derive(Clone, Copy)]
@@ -20,38 +21,21 @@ pub enum Answer {
 }
 
 // A whole tag is accepted: its ids go out, it is counted, and pushed if it has content.
-pub fn accept(
-    sheet: &[u8],
-    program: &[u32],
-    rows: &mut [u32],
-    names: &mut [u8],
-    ids: &mut [u64],
-    nodes: &mut [u16],
-    name: &[u8],
-    content: bool,
-    found: &[u16],
-) -> Answer
-    requires limited { Limited rows.old name.now }
+pub fn accept(machine: &mut Machine, name: &[u8], content: bool, found: &[u16]) -> Answer
+    requires limited { Limited machine.old.rows.now name.now }
     requires found_few { length found.now ≤ 1024 }
-    requires unrefused { push_refusal sheet.now program.now rows.old content found.now ≡ 0 }
-    ensures { outcome (answer_reply result) (stores rows.new names.new ids.new nodes.new) ≡ accepted sheet.now program.now (stores rows.old names.old ids.old nodes.old) name.now content found.now }
+    requires unrefused { push_refusal machine.old.sheet.now machine.old.program.now machine.old.rows.now content found.now ≡ 0 }
+    ensures answered { outcome (answer_reply result) (contents machine.new) ≡ accepted machine.old.sheet.now machine.old.program.now (contents machine.old) name.now content found.now }
+    ensures lent { SameLoans machine.old machine.new }
 {
     let mut words = [0, 0];
-    gather_ids(sheet, program, found, &mut words);
+    gather_ids(machine.sheet, machine.program, found, &mut words);
+    let rows = &mut *machine.rows;
     let types = counts_types(rows);
-    add_child(rows, names, name, types);
+    add_child(rows, machine.names, name, types);
     if content {
-        push_item(
-            rows,
-            names,
-            ids,
-            nodes,
-            program,
-            u16_at(sheet, 5),
-            name,
-            &words,
-            found,
-        );
+        let limit = u16_at(machine.sheet, 5);
+        push_item(machine, limit, name, &words, found);
     }
     Answer::Match {
         ids: words,

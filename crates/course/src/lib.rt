@@ -16,6 +16,7 @@ use names::name_key;
 use node_tests::Tag;
 use node_tests::attribute_matcher::AttributeMatcher;
 use shapes::counts_types;
+use stack::machine::Machine;
 use waiting::held_found;
 
 // Kept as it is: the header's word 6 holds namespace and void as one number, of which `kind_of`, `is_html` and `has_content` of specs/Course.antt speak.
@@ -103,68 +104,55 @@ fn held_cursor(rows: &[u32]) -> Cursor
 }
 
 // The scan of a tag that comes now: HTML with the tag alone; SVG and MathML wait before the first instruction.
-pub fn begin_scan(
-    sheet: &[u8],
-    program: &[u32],
-    rows: &[u32],
-    names: &[u8],
-    nodes: &[u16],
-    name: &[u8],
-    kind: u32,
-    found: &mut [u16],
-) -> Scanned
-    ensures { (result ≡ answer_from 0 (begin sheet.now program.now rows.now names.now nodes.now name.now kind)) × (found.new ≡ written found.old 0 (found_in (begin sheet.now program.now rows.now names.now nodes.now name.now kind))) }
+pub fn begin_scan(machine: &Machine, name: &[u8], kind: u32, found: &mut [u16]) -> Scanned
+    ensures { let m = machine.now in let sought = begin m.sheet.now m.program.now m.rows.now m.names.now m.nodes.now name.now kind in (result ≡ answer_from 0 sought) × (found.new ≡ written found.old 0 (found_in sought)) }
 {
-    let from = first_live(sheet, rows);
+    let from = first_live(machine.sheet, machine.rows);
     if !is_html(kind) {
         return Scanned {
             count: 0,
             stopped_at: Some(from),
         };
     }
-    let ranges = live_ranges(sheet, rows);
-    let tag = tag_of(rows, names, name);
+    let ranges = live_ranges(machine.sheet, machine.rows);
+    let tag = tag_of(machine.rows, machine.names, name);
     let key = name_key(name);
     scan_tag(
-        sheet,
-        program,
-        nodes,
+        machine.sheet,
+        machine.program,
+        machine.nodes,
         ranges,
         tag,
         key,
         from,
-        u16_at(sheet, 5) as u16,
+        u16_at(machine.sheet, 5) as u16,
         found,
     )
 }
 
 // All nodes that the waiting tag matches with its attributes: those found before it waited, and those from its cursor on.
 pub fn resume_scan(
-    sheet: &[u8],
-    program: &[u32],
-    rows: &[u32],
-    names: &[u8],
-    nodes: &[u16],
+    machine: &Machine,
     name: &[u8],
     input: &[u8],
     outlines: &[u32],
     found: &mut [u16],
 ) -> usize
-    requires { (get_or rows.now 7 0 ≤ node_count sheet.now) × (node_count sheet.now ≤ 1024) }
-    ensures { (result ≡ length (resumed sheet.now program.now rows.now names.now nodes.now name.now input.now outlines.now)) × (found.new ≡ written found.old 0 (resumed sheet.now program.now rows.now names.now nodes.now name.now input.now outlines.now)) }
+    requires { (get_or machine.now.rows.now 7 0 ≤ node_count machine.now.sheet.now) × (node_count machine.now.sheet.now ≤ 1024) }
+    ensures { let m = machine.now in let all = resumed m.sheet.now m.program.now m.rows.now m.names.now m.nodes.now name.now input.now outlines.now in (result ≡ length all) × (found.new ≡ written found.old 0 all) }
 {
-    let count = held_found(rows, nodes, found);
-    let ranges = live_ranges(sheet, rows);
-    let tag = tag_of(rows, names, name);
+    let count = held_found(machine.rows, machine.nodes, found);
+    let ranges = live_ranges(machine.sheet, machine.rows);
+    let tag = tag_of(machine.rows, machine.names, name);
     let key = name_key(name);
-    let html = is_html(get(rows, 6));
+    let html = is_html(get(machine.rows, 6));
     let attributes = AttributeMatcher::new(input, outlines, html);
-    let from = held_cursor(rows);
-    let budget = (u16_at(sheet, 5) - count) as u16;
+    let from = held_cursor(machine.rows);
+    let budget = (u16_at(machine.sheet, 5) - count) as u16;
     scan_attributes(
-        sheet,
-        program,
-        nodes,
+        machine.sheet,
+        machine.program,
+        machine.nodes,
         ranges,
         tag,
         key,

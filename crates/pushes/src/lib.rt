@@ -4,12 +4,14 @@
 ghost use Rattle.std.specs.Prelude.{◌≡◌, ◌+◌, ◌<◌, ◌≤◌, ◌^◌, length};
 ghost use Rattle.cells.specs.Numbers.{IsPlace};
 ghost use Rattle.cells.specs.Stretches.{cells_from, written};
-ghost use Rattle.stack.specs.Stores.{open_limit, parent_limit, ancestor_limit, found_limit, name_limit, id_words, stores, opens, parents_top, ancestors_top, listed, with_row, pushed};
+ghost use Rattle.stack.specs.Lent.{contents, SameLoans};
+ghost use Rattle.stack.specs.Stores.{open_limit, parent_limit, ancestor_limit, found_limit, name_limit, id_words, opens, parents_top, ancestors_top, listed, with_row, pushed};
 ghost use Rattle.pushes.specs.Kept.{kept};
 
 use cells::{get, number_at, put};
 use stack::blocks::has_block;
 use stack::copies::copy;
+use stack::machine::Machine;
 use stack::{
     ANCESTORS, ANCESTORS_TOP, CHILD_BLOCK, DESCENDANT_BLOCK, ID_WORDS, NAME, OPENS, PAIRS_TOP,
     PARENTS_TOP, ROW, ROWS,
@@ -69,35 +71,35 @@ fn put_row(rows: &mut [u32], n: usize, k: usize, parents: usize, ancestors: usiz
 }
 
 // The push. The machine tests the bounds before: the header's as refusal 30, room for one more as 27.
-pub fn push_item(
-    rows: &mut [u32],
-    names: &mut [u8],
-    ids: &mut [u64],
-    nodes: &mut [u16],
-    program: &[u32],
-    limit: usize,
-    name: &[u8],
-    words: &[u64],
-    found: &[u16],
-)
-    requires { (opens rows.old < open_limit) × (parents_top rows.old ≤ parent_limit) × (ancestors_top rows.old ≤ ancestor_limit) × (length name.now ≤ name_limit) × (length words.now ≤ id_words) × (length found.now ≤ found_limit) }
-    ensures { stores rows.new names.new ids.new nodes.new ≡ pushed program.now limit (stores rows.old names.old ids.old nodes.old) name.now words.now found.now }
+pub fn push_item(machine: &mut Machine, limit: usize, name: &[u8], words: &[u64], found: &[u16])
+    requires { (opens machine.old.rows.now < open_limit) × (parents_top machine.old.rows.now ≤ parent_limit) × (ancestors_top machine.old.rows.now ≤ ancestor_limit) × (length name.now ≤ name_limit) × (length words.now ≤ id_words) × (length found.now ≤ found_limit) }
+    ensures pushed { contents machine.new ≡ pushed machine.old.program.now limit (contents machine.old) name.now words.now found.now }
+    ensures lent { SameLoans machine.old machine.new }
 {
+    let rows = &mut *machine.rows;
     let k = number_at(rows, OPENS) + 1;
     let old = number_at(rows, ANCESTORS_TOP);
     let ancestors = put_kept(
-        nodes,
+        machine.nodes,
         ANCESTORS,
         old,
         DESCENDANT_BLOCK,
-        program,
+        machine.program,
         limit,
         found,
     ) - ANCESTORS;
     // No list to look through: each found node with child trees is a parent.
     let first = number_at(rows, PARENTS_TOP);
-    let parents = put_kept(nodes, first, 0, CHILD_BLOCK, program, limit, found);
-    copy(name, 0, name.len(), names, k * NAME);
-    copy(words, 0, words.len(), ids, k * ID_WORDS);
+    let parents = put_kept(
+        machine.nodes,
+        first,
+        0,
+        CHILD_BLOCK,
+        machine.program,
+        limit,
+        found,
+    );
+    copy(name, 0, name.len(), machine.names, k * NAME);
+    copy(words, 0, words.len(), machine.ids, k * ID_WORDS);
     put_row(rows, name.len(), k, parents, ancestors);
 }

@@ -6,6 +6,7 @@ ghost use Rattle.stack.specs.Stores.{stores};
 ghost use Rattle.replies.specs.Replies.{answered, start_turn, attributes_turn, end_turn, popped_room, saying};
 
 use reply_lines::{put_popped, put_reply};
+use stack::machine::Machine;
 
 pub fn answer_start(
     sheet: &[u8],
@@ -23,7 +24,15 @@ pub fn answer_start(
     ensures nodes_after { answered (Some result) out.new (stores rows.new names.new ids.new nodes.new) ≡ saying (start_turn sheet.now program.now (stores rows.old names.old ids.old nodes.old) namespace name.now) out.old at }
     ensures upper_bound { result ≤ at + 4096 }
 {
-    let reply = starts::start(sheet, program, rows, names, ids, nodes, namespace, name);
+    let mut machine = Machine {
+        sheet,
+        program,
+        rows,
+        names,
+        ids,
+        nodes,
+    };
+    let reply = starts::start(&mut machine, namespace, name);
     put_reply(out, at, reply)
 }
 
@@ -44,9 +53,15 @@ pub fn answer_attributes(
     ensures nodes_after { answered (Some result) out.new (stores rows.new names.new ids.new nodes.new) ≡ saying (attributes_turn sheet.now program.now (stores rows.old names.old ids.old nodes.old) closing body.now outlines.now) out.old at }
     ensures upper_bound { result ≤ at + 4096 }
 {
-    let reply = resumes::attributes(
-        sheet, program, rows, names, ids, nodes, closing, body, outlines,
-    );
+    let mut machine = Machine {
+        sheet,
+        program,
+        rows,
+        names,
+        ids,
+        nodes,
+    };
+    let reply = resumes::attributes(&mut machine, closing, body, outlines);
     put_reply(out, at, reply)
 }
 

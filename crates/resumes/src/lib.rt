@@ -3,7 +3,7 @@
 
 ghost use Rattle.std.specs.Prelude.{◌≡◌, ◌≤◌, get_or};
 ghost use Rattle.sheet.specs.Parser.{node_count};
-ghost use Rattle.stack.specs.Stores.{stores};
+ghost use Rattle.stack.specs.Lent.{contents, SameLoans};
 ghost use Rattle.accepting.specs.Accepting.{reply_of, Limited, outcome};
 ghost use Rattle.tags.specs.Tags.{given};
 ghost use Rattle.resumes.specs.Resumes.{attributes_call};
@@ -12,76 +12,49 @@ use accepting::Answer;
 use cells::get;
 use course::{has_content, resume_scan};
 use refusals::Refusal;
-use shapes::check_state;
+use shapes::check_machine;
 use stack::HELD_KIND;
+use stack::machine::Machine;
 use tags::finish_held;
 use waiting::held_name;
 use weighing::check_attributes;
 
 // The attributes of the waiting tag, whose name is at hand.
 fn attributes_named(
-    sheet: &[u8],
-    program: &[u32],
-    rows: &mut [u32],
-    names: &mut [u8],
-    ids: &mut [u64],
-    nodes: &mut [u16],
+    machine: &mut Machine,
     name: &[u8],
     self_closing: bool,
     input: &[u8],
     outlines: &[u32],
 ) -> Result<Answer, Refusal>
-    requires limited { Limited rows.old name.now }
-    requires held_few { get_or rows.old 7 0 ≤ node_count sheet.now }
-    requires nodes_few { node_count sheet.now ≤ 1024 }
-    ensures { outcome (reply_of result) (stores rows.new names.new ids.new nodes.new) ≡ given sheet.now program.now (stores rows.old names.old ids.old nodes.old) name.now self_closing input.now outlines.now }
+    requires limited { Limited machine.old.rows.now name.now }
+    requires held_few { get_or machine.old.rows.now 7 0 ≤ node_count machine.old.sheet.now }
+    requires nodes_few { node_count machine.old.sheet.now ≤ 1024 }
+    ensures answered { outcome (reply_of result) (contents machine.new) ≡ given machine.old.sheet.now machine.old.program.now (contents machine.old) name.now self_closing input.now outlines.now }
+    ensures lent { SameLoans machine.old machine.new }
 {
     let mut found = [0; 1024];
-    let n = resume_scan(
-        sheet, program, rows, names, nodes, name, input, outlines, &mut found,
-    );
+    let n = resume_scan(machine, name, input, outlines, &mut found);
+    let rows = &mut *machine.rows;
     let content = has_content(get(rows, HELD_KIND), self_closing);
-    finish_held(
-        sheet,
-        program,
-        rows,
-        names,
-        ids,
-        nodes,
-        name,
-        content,
-        &found[0..n],
-    )
+    finish_held(machine, name, content, &found[0..n])
 }
 
 /// The attributes of the tag that waits: its input and outlines in fours (name start, name end, value start, value end).
 pub fn attributes(
-    sheet: &[u8],
-    program: &[u32],
-    rows: &mut [u32],
-    names: &mut [u8],
-    ids: &mut [u64],
-    nodes: &mut [u16],
+    machine: &mut Machine,
     self_closing: bool,
     input: &[u8],
     outlines: &[u32],
 ) -> Result<Answer, Refusal>
-    ensures { outcome (reply_of result) (stores rows.new names.new ids.new nodes.new) ≡ attributes_call sheet.now program.now (stores rows.old names.old ids.old nodes.old) self_closing input.now outlines.now }
+    ensures answered { outcome (reply_of result) (contents machine.new) ≡ attributes_call machine.old.sheet.now machine.old.program.now (contents machine.old) self_closing input.now outlines.now }
+    ensures lent { SameLoans machine.old machine.new }
 {
-    check_state(sheet, program, rows, names, ids, nodes)?;
+    check_machine(machine)?;
+    let rows = &mut *machine.rows;
     check_attributes(rows, input, outlines)?;
+    let names = &mut *machine.names;
     let mut low = [0; 64];
     let n = held_name(rows, names, &mut low);
-    attributes_named(
-        sheet,
-        program,
-        rows,
-        names,
-        ids,
-        nodes,
-        &low[0..n],
-        self_closing,
-        input,
-        outlines,
-    )
+    attributes_named(machine, &low[0..n], self_closing, input, outlines)
 }

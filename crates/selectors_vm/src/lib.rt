@@ -10,6 +10,7 @@ ghost use Rattle.stack.specs.Stores.{stores};
 ghost use Rattle.told.specs.Told.{made_told, reply_told, popped_told, top_reply_told};
 ghost use Rattle.selectors_vm.specs.Flags.{is_on};
 
+use stack::machine::Machine;
 use told::Told;
 
 /// Makes a machine of a sheet, whatever its stores held.
@@ -42,7 +43,15 @@ pub extern "C" fn selectors_vm_start(
 ) -> Told
     ensures { (result ≡ reply_told (start_call sheet.now program.now (stores rows.old names.old ids.old nodes.old) namespace name.now).reply) × (stores rows.new names.new ids.new nodes.new ≡ (start_call sheet.now program.now (stores rows.old names.old ids.old nodes.old) namespace name.now).after) }
 {
-    starts::start(sheet, program, rows, names, ids, nodes, namespace, name).into()
+    let mut machine = Machine {
+        sheet,
+        program,
+        rows,
+        names,
+        ids,
+        nodes,
+    };
+    starts::start(&mut machine, namespace, name).into()
 }
 
 /// The attributes of the tag that waits: its bytes, and outlines in fours (name start, name end, value start, value end).
@@ -60,18 +69,15 @@ pub extern "C" fn selectors_vm_attributes(
 ) -> Told
     ensures { (result ≡ reply_told (attributes_call sheet.now program.now (stores rows.old names.old ids.old nodes.old) (is_on self_closing) input.now outlines.now).reply) × (stores rows.new names.new ids.new nodes.new ≡ (attributes_call sheet.now program.now (stores rows.old names.old ids.old nodes.old) (is_on self_closing) input.now outlines.now).after) }
 {
-    resumes::attributes(
+    let mut machine = Machine {
         sheet,
         program,
         rows,
         names,
         ids,
         nodes,
-        self_closing != 0,
-        input,
-        outlines,
-    )
-    .into()
+    };
+    resumes::attributes(&mut machine, self_closing != 0, input, outlines).into()
 }
 
 /// An end tag. Two id words for each popped element go to `popped`, in opening order.

@@ -3,12 +3,14 @@
 
 ghost use Rattle.std.specs.Prelude.{◌≡◌};
 ghost use Rattle.refusals.specs.Numbers.{number_of};
+ghost use Rattle.stack.specs.Lent.{contents};
 ghost use Rattle.stack.specs.Stores.{stores};
 ghost use Rattle.shapes.specs.Shapes.{esi_on, types_counted, sized, header_shaped, shaped, state_refusal};
 
 use cells::numbers::u16_at;
 use cells::{get, number_at};
 use refusals::Refusal;
+use stack::machine::Machine;
 use stack::{
     ANCESTORS_TOP, FLAGS, HELD_FOUND, HELD_NAME, INSTRUCTION, MARK, OPENS, PAIRS_TOP, PARENTS_TOP,
     SHEET, WAITS,
@@ -93,6 +95,7 @@ pub fn is_shaped(sheet: &[u8], program: &[u32], rows: &[u32]) -> bool
 }
 
 // 31, 30.
+// Kept as it is: the C interface lends names, ids and nodes read-only to some calls, and a Machine has them to write.
 #[tactic(auto, unfolding(crate::specs::Shapes::state_refusal))]
 pub fn check_state(
     sheet: &[u8],
@@ -111,4 +114,18 @@ pub fn check_state(
         return Err(Refusal::BadShape);
     }
     Ok(())
+}
+
+// 31, 30, where the machine is one value.
+pub fn check_machine(machine: &Machine) -> Result<(), Refusal>
+    ensures { number_of result ≡ state_refusal machine.now.sheet.now machine.now.program.now (contents machine.now) }
+{
+    check_state(
+        machine.sheet,
+        machine.program,
+        machine.rows,
+        machine.names,
+        machine.ids,
+        machine.nodes,
+    )
 }

@@ -11,8 +11,6 @@ use Rattle.names.specs.Names.{void_name}
 use Rattle.stack.specs.Stores.{Stores}
 use Rattle.exec.specs.Scans.{Sought, over, stopped, found_in, answer_from}
 use Rattle.exec.specs.declared.scan.Scanned.{Scanned}
-use Rattle.std.specs.Prelude.{is_some, unwrap_or}
-use Rattle.cursors.specs.declared.Cursor.{Cursor}
 use Rattle.shapes.specs.Shapes.{esi_on, state_refusal}
 use Rattle.weighing.specs.Weighing.{pairs_full, tag_refusal}
 use Rattle.weighing.specs.Passing.{passed, stopped_by}
@@ -25,23 +23,23 @@ use Rattle.starts.specs.Starts.{start_call}
 
 -- ---- by its lower-cased name
 
-sought-is : (s : Sought) (r : Scanned) (zeros last : List ℕ) (d : Cursor) → r ≡ answer_from 0 s → last ≡ written zeros 0 (found_in s) → length (found_in s) ≤ length zeros
-    → sought_of (take (r.count - 0) (drop 0 last)) (is_some r.stopped_at) (unwrap_or r.stopped_at d) ≡ s
+sought-is : (s : Sought) (r : Scanned) (zeros last : List ℕ) → r ≡ answer_from 0 s → last ≡ written zeros 0 (found_in s) → length (found_in s) ≤ length zeros
+    → sought_of (take (r.count - 0) (drop 0 last)) r.stopped_at ≡ s
 unfolding answer_from found_in
-sought-is (over found) r zeros last d e f h = rw (e, f) (ap over (front zeros found (0 + length found) (zero-add (length found)) h))
-sought-is (stopped found c) r zeros last d e f h = rw (e, f) (ap (λ (l : List ℕ). stopped l c) (front zeros found (0 + length found) (zero-add (length found)) h))
+sought-is (over found) r zeros last e f h = rw (e, f) (ap over (front zeros found (0 + length found) (zero-add (length found)) h))
+sought-is (stopped found c) r zeros last e f h = rw (e, f) (ap (λ (l : List ℕ). stopped l c) (front zeros found (0 + length found) (zero-add (length found)) h))
 
 module _ (sheet program : List ℕ) (s : Stores) (name : List ℕ) (kind : ℕ) (full : Bool) (e : full ≡ pairs_full s.rows s.names name) where
   pub lowered-full : (answer : Reply) → full ≡ true → answer ≡ reply (Answer.Refused 26) no_ids → outcome answer s ≡ lowered sheet program s name kind
   unfolding lowered
   lowered-full answer h q = rw (← e, h) (λ i. outcome (q i) s)
 
-  pub lowered-begun : (o : Outcome) (r : Scanned) (zeros last : List ℕ) (stuck : Bool) (c d : Cursor) → full ≡ false
+  pub lowered-begun : (o : Outcome) (r : Scanned) (zeros last : List ℕ) → full ≡ false
       → (r ≡ answer_from 0 (begin sheet program s.rows s.names s.nodes name kind)) × (last ≡ written zeros 0 (found_in (begin sheet program s.rows s.names s.nodes name kind)))
       → length (found_in (begin sheet program s.rows s.names s.nodes name kind)) ≤ length zeros
-      → stuck ≡ is_some r.stopped_at → c ≡ unwrap_or r.stopped_at d → o ≡ begun sheet program s name kind (sought_of (take (r.count - 0) (drop 0 last)) stuck c) → o ≡ lowered sheet program s name kind
+      → o ≡ begun sheet program s name kind (sought_of (take (r.count - 0) (drop 0 last)) r.stopped_at) → o ≡ lowered sheet program s name kind
   unfolding lowered
-  lowered-begun o r zeros last stuck c d h p l x y q = rw (← e, h) (rw (x, y) at q ∙ ap (begun sheet program s name kind) (sought-is (begin sheet program s.rows s.names s.nodes name kind) r zeros last d p.0 p.1 l))
+  lowered-begun o r zeros last h p l q = rw (← e, h) (q ∙ ap (begun sheet program s name kind) (sought-is (begin sheet program s.rows s.names s.nodes name kind) r zeros last p.0 p.1 l))
 
 -- ---- the call
 

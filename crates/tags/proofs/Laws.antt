@@ -5,6 +5,7 @@ use mathlib.Core.List.{List}
 use Prim.Native.Nat.{ℕ, ◌≤◌}
 use native.Mathlib.Omega.{arith}
 use lib.ListN.{get_or}
+use Rattle.std.specs.Prelude.{Some, None}
 use Rattle.cells.specs.Stretches.{written, get_off}
 use Rattle.stack.specs.Stores.{Stores, stores, opens, parents_top, ancestors_top, found_from, held_rows, released_rows}
 use Rattle.cursors.specs.declared.Cursor.{Cursor}
@@ -59,14 +60,14 @@ module _ (rows rows₁ : List ℕ) (a : rows₁ ≡ released_rows rows) where
   still-ancestors h = rw (a, released-header rows 2 (λ z. omega arith)) h
 
 -- the tag waits, or its scan is over
-module _ (sheet program rows names ids nodes name : List ℕ) (kind : ℕ) (found : List ℕ) (stuck : Bool) (c : Cursor) where
-  pub begun-waits : (rows₁ names₁ nodes₁ : List ℕ) (slot at stop : ℕ) → stuck ≡ true → slot ≡ cell c.slot → at ≡ cell c.at → stop ≡ cell c.stop
+module _ (sheet program rows names ids nodes name : List ℕ) (kind : ℕ) (found : List ℕ) where
+  pub begun-waits : (c : Cursor) (rows₁ names₁ nodes₁ : List ℕ) (slot at stop : ℕ) → slot ≡ cell c.slot → at ≡ cell c.at → stop ≡ cell c.stop
       → (rows₁ ≡ held_rows rows name kind found c.stage slot at stop) × (names₁ ≡ written names 0 name) × (nodes₁ ≡ written nodes found_from found)
-      → outcome (reply Answer.Attributes no_ids) (stores rows₁ names₁ ids nodes₁) ≡ begun sheet program (stores rows names ids nodes) name kind (sought_of found stuck c)
+      → outcome (reply Answer.Attributes no_ids) (stores rows₁ names₁ ids nodes₁) ≡ begun sheet program (stores rows names ids nodes) name kind (sought_of found (Some c))
   unfolding begun
-  begun-waits rows₁ names₁ nodes₁ slot at stop h a b d (p, q, r) =
-      rw h ((λ i. outcome (reply Answer.Attributes no_ids) (stores (p i) (q i) ids (r i))) ∙ (λ i. outcome (reply Answer.Attributes no_ids) (stores (held_rows rows name kind found c.stage (a i) (b i) (d i)) (written names 0 name) ids (written nodes found_from found))))
+  begun-waits c rows₁ names₁ nodes₁ slot at stop a b d (p, q, r) =
+      (λ i. outcome (reply Answer.Attributes no_ids) (stores (p i) (q i) ids (r i))) ∙ (λ i. outcome (reply Answer.Attributes no_ids) (stores (held_rows rows name kind found c.stage (a i) (b i) (d i)) (written names 0 name) ids (written nodes found_from found)))
 
-  pub begun-over : (o : Outcome) (content : Bool) → stuck ≡ false → content ≡ has_content kind false → o ≡ whole sheet program (stores rows names ids nodes) (stores rows names ids nodes) name content found → o ≡ begun sheet program (stores rows names ids nodes) name kind (sought_of found stuck c)
+  pub begun-over : (o : Outcome) (content : Bool) → content ≡ has_content kind false → o ≡ whole sheet program (stores rows names ids nodes) (stores rows names ids nodes) name content found → o ≡ begun sheet program (stores rows names ids nodes) name kind (sought_of found None)
   unfolding begun
-  begun-over o content h g e = rw h (e ∙ ap (λ (b : Bool). whole sheet program (stores rows names ids nodes) (stores rows names ids nodes) name b found) g)
+  begun-over o content g e = e ∙ ap (λ (b : Bool). whole sheet program (stores rows names ids nodes) (stores rows names ids nodes) name b found) g

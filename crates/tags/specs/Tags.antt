@@ -1,5 +1,5 @@
 -- A start tag from its scan to its reply, for any stores (01, section 4): the answer, and what every store holds after it.
-use Rattle.std.specs.Prelude.{Bool, true, false, cond, not, List, ℕ, eqb}
+use Rattle.std.specs.Prelude.{Bool, false, cond, not, List, ℕ, eqb, Option, Some, None}
 use Rattle.stack.specs.Stores.{Stores, held_kind, held, released}
 use Rattle.exec.specs.Scans.{Sought, over, stopped}
 use Rattle.cursors.specs.declared.Cursor.{Cursor}
@@ -9,9 +9,9 @@ use Rattle.accepting.specs.Accepting.{Answer, Outcome, outcome, reply, refusing,
 use Rattle.course.specs.Course.{has_content, begin, resumed}
 
 -- What a scan found: it stopped at a cursor, or it is over.
-abbrev pub sought_of : (found : List ℕ) → (stuck : Bool) → Cursor → Sought
-sought_of found true c = stopped found c
-sought_of found false c = over found
+abbrev pub sought_of : (found : List ℕ) → (stopped_at : Option Cursor) → Sought
+sought_of found (Some c) = stopped found c
+sought_of found None = over found
 
 module _ (sheet program : List ℕ) where
   -- A whole tag is accepted, unless it is refused (27, 28): `old` is what stays then.
