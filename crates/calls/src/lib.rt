@@ -3,6 +3,7 @@
 
 ghost use Rattle.std.specs.Prelude.{◌≡◌, ◌+◌, ◌*◌, ◌≤◌, ◌<◌, length};
 ghost use Rattle.cells.specs.Numbers.{part};
+ghost use Rattle.stack.specs.Lent.{SameLoans};
 ghost use Rattle.calls.specs.States.{Within, Ready, Left};
 
 use case_lines::{put_made, put_sets, put_top};
@@ -12,6 +13,7 @@ use ends::id_set;
 use making::fresh_machine;
 use replies::{answer_attributes, answer_start};
 use reply_lines::put_popped;
+use stack::machine::Machine;
 
 // Where the next call stands and where the next line goes, where the machine's sheet lies in the input, and its instruction store's size.
 #[derive(Clone, Copy, Default)]
@@ -25,7 +27,7 @@ pub struct State {
 
 impl State {
     // The machine's sheet, where it lies in the input.
-    fn sheet<'i>(self, input: &'i [u8]) -> &'i [u8]
+    pub fn sheet<'i>(self, input: &'i [u8]) -> &'i [u8]
         ensures { result.now ≡ part input.now self.sheet self.sheet_end }
     {
         part_of(input, self.sheet, self.sheet_end)
@@ -75,27 +77,16 @@ pub fn make_call(
     }
 }
 
-pub fn start_call(
-    s: State,
-    input: &[u8],
-    program: &[u32],
-    rows: &mut [u32],
-    names: &mut [u8],
-    ids: &mut [u64],
-    nodes: &mut [u16],
-    out: &mut [u8],
-) -> State
+pub fn start_call(s: State, input: &[u8], machine: &mut Machine, out: &mut [u8]) -> State
     requires { Ready s input.now }
-    ensures { (result.at ≤ 131072) × (result.wrote ≤ s.wrote + 4096) × (result.size ≡ s.size) }
+    ensures bounds { (result.at ≤ 131072) × (result.wrote ≤ s.wrote + 4096) × (result.size ≡ s.size) }
+    ensures lent { SameLoans machine.old machine.new }
 {
     let at = s.at;
     let namespace = u32_at(input, at + 1) as u32;
     let end = string_end(input, at + 5);
     let name = part_of(input, at + 9, end);
-    let sheet = s.sheet(input);
-    let wrote = answer_start(
-        sheet, program, rows, names, ids, nodes, namespace, name, out, s.wrote,
-    );
+    let wrote = answer_start(machine, namespace, name, out, s.wrote);
     State {
         at: end,
         wrote,
@@ -115,18 +106,10 @@ fn read_numbers(input: &[u8], at: usize, n: usize, room: &mut [u32]) -> usize
     count
 }
 
-pub fn attributes_call(
-    s: State,
-    input: &[u8],
-    program: &[u32],
-    rows: &mut [u32],
-    names: &mut [u8],
-    ids: &mut [u64],
-    nodes: &mut [u16],
-    out: &mut [u8],
-) -> State
+pub fn attributes_call(s: State, input: &[u8], machine: &mut Machine, out: &mut [u8]) -> State
     requires { Ready s input.now }
-    ensures { (result.at ≤ 262144) × (result.wrote ≤ s.wrote + 4096) × (result.size ≡ s.size) }
+    ensures bounds { (result.at ≤ 262144) × (result.wrote ≤ s.wrote + 4096) × (result.size ≡ s.size) }
+    ensures lent { SameLoans machine.old machine.new }
 {
     let at = s.at;
     let closing = u32_at(input, at + 1);
@@ -134,20 +117,7 @@ pub fn attributes_call(
     let text = part_of(input, at + 9, end);
     let mut outlines = [0; 2048];
     let n = read_numbers(input, end + 4, u32_at(input, end), &mut outlines);
-    let sheet = s.sheet(input);
-    let wrote = answer_attributes(
-        sheet,
-        program,
-        rows,
-        names,
-        ids,
-        nodes,
-        closing != 0,
-        text,
-        &outlines[0..n],
-        out,
-        s.wrote,
-    );
+    let wrote = answer_attributes(machine, closing != 0, text, &outlines[0..n], out, s.wrote);
     State {
         at: end + 4 + n * 4,
         wrote,
@@ -156,56 +126,45 @@ pub fn attributes_call(
 }
 
 fn end_lines(
-    sheet: &[u8],
-    program: &[u32],
-    rows: &mut [u32],
-    names: &[u8],
-    ids: &[u64],
-    nodes: &[u16],
+    machine: &mut Machine,
     name: &[u8],
     popped: &mut [u64],
     out: &mut [u8],
     at: usize,
 ) -> usize
     requires { at ≤ 131072 }
-    ensures { result ≤ 143360 }
+    ensures bounds { result ≤ 143360 }
+    ensures lent { SameLoans machine.old machine.new }
 {
-    let answer = ends::end(sheet, program, rows, names, ids, nodes, name, popped);
-    let next = put_popped(out, at, answer);
-    put_sets(out, next, popped, answer)
-}
-
-pub fn end_call(
-    s: State,
-    input: &[u8],
-    program: &[u32],
-    rows: &mut [u32],
-    names: &[u8],
-    ids: &[u64],
-    nodes: &[u16],
-    out: &mut [u8],
-) -> State
-    requires { Ready s input.now }
-    ensures { Left result × (result.size ≡ s.size) }
-{
-    let at = s.at;
-    let room = u32_at(input, at + 1).min(512);
-    let end = string_end(input, at + 5);
-    let name = part_of(input, at + 9, end);
-    let sheet = s.sheet(input);
-    let mut popped = [0; 512];
-    let wrote = end_lines(
-        sheet,
-        program,
+    let rows = &mut *machine.rows;
+    let names = &mut *machine.names;
+    let ids = &mut *machine.ids;
+    let nodes = &mut *machine.nodes;
+    let answer = ends::end(
+        machine.sheet,
+        machine.program,
         rows,
         names,
         ids,
         nodes,
         name,
-        &mut popped[0..room],
-        out,
-        s.wrote,
+        popped,
     );
+    let next = put_popped(out, at, answer);
+    put_sets(out, next, popped, answer)
+}
+
+pub fn end_call(s: State, input: &[u8], machine: &mut Machine, out: &mut [u8]) -> State
+    requires { Ready s input.now }
+    ensures bounds { Left result × (result.size ≡ s.size) }
+    ensures lent { SameLoans machine.old machine.new }
+{
+    let at = s.at;
+    let room = u32_at(input, at + 1).min(512);
+    let end = string_end(input, at + 5);
+    let name = part_of(input, at + 9, end);
+    let mut popped = [0; 512];
+    let wrote = end_lines(machine, name, &mut popped[0..room], out, s.wrote);
     State {
         at: end,
         wrote,
@@ -213,21 +172,16 @@ pub fn end_call(
     }
 }
 
-pub fn ids_call(
-    s: State,
-    input: &[u8],
-    program: &[u32],
-    rows: &[u32],
-    names: &[u8],
-    ids: &[u64],
-    nodes: &[u16],
-    out: &mut [u8],
-) -> State
+pub fn ids_call(s: State, machine: &mut Machine, out: &mut [u8]) -> State
     requires { Within s }
-    ensures { Left result × (result.size ≡ s.size) }
+    ensures bounds { Left result × (result.size ≡ s.size) }
+    ensures lent { SameLoans machine.old machine.new }
 {
-    let sheet = s.sheet(input);
-    let reply = id_set(sheet, program, rows, names, ids, nodes);
+    let rows = &mut *machine.rows;
+    let names = &mut *machine.names;
+    let ids = &mut *machine.ids;
+    let nodes = &mut *machine.nodes;
+    let reply = id_set(machine.sheet, machine.program, rows, names, ids, nodes);
     State {
         at: s.at + 1,
         wrote: put_top(out, s.wrote, reply),

@@ -6,6 +6,7 @@ ghost use Rattle.calls.specs.States.{Ready, Left};
 
 use calls::{State, attributes_call, end_call, ids_call, make_call, start_call};
 use cells::get;
+use stack::machine::Machine;
 
 /// A call, as its first byte says.
 #[derive(Clone, Copy, Debug, PartialEq, Eq)]
@@ -44,21 +45,23 @@ fn one_call(
     requires { Ready s input.now × (s.size ≤ length program.old) }
     ensures { Left result × (result.size ≤ length program.new) }
 {
-    match Call::from(get(input, s.at)) {
-        Call::Make => make_call(s, input, program, rows, names, ids, nodes, out),
-        Call::Start => start_call(s, input, &program[..s.size], rows, names, ids, nodes, out),
-        Call::Attributes => attributes_call(
-            s,
-            input,
-            &program[..s.size],
-            rows,
-            names,
-            ids,
-            nodes,
-            out,
-        ),
-        Call::End => end_call(s, input, &program[..s.size], rows, names, ids, nodes, out),
-        Call::Ids => ids_call(s, input, &program[..s.size], rows, names, ids, nodes, out),
+    let call = Call::from(get(input, s.at));
+    if call == Call::Make {
+        return make_call(s, input, program, rows, names, ids, nodes, out);
+    }
+    let mut machine = Machine {
+        sheet: s.sheet(input),
+        program: &program[..s.size],
+        rows,
+        names,
+        ids,
+        nodes,
+    };
+    match call {
+        Call::Start => start_call(s, input, &mut machine, out),
+        Call::Attributes => attributes_call(s, input, &mut machine, out),
+        Call::End => end_call(s, input, &mut machine, out),
+        _ => ids_call(s, &mut machine, out),
     }
 }
 

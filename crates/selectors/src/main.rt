@@ -7,6 +7,7 @@ ghost use Rattle.std.specs.Prelude.{◌≡◌, length};
 use block_ends::Halt;
 use lines::{put_refused, put_sheet_refused};
 use making::{Unmade, fresh_machine};
+use stack::machine::Machine;
 use std::io::{Read, Result, Write};
 use std::process::ExitCode;
 use trace_blocks::{Progress, read_sheet, turn};
@@ -18,12 +19,7 @@ const TURNS: u64 = 1 << 46;
 fn run<R: Read, W: Write>(
     reader: &mut R,
     writer: &mut W,
-    sheet: &[u8],
-    program: &[u32],
-    rows: &mut [u32],
-    names: &mut [u8],
-    ids: &mut [u64],
-    nodes: &mut [u16],
+    machine: &mut Machine,
     input: &mut [u8],
     out: &mut [u8],
 ) -> Result<()>
@@ -37,9 +33,7 @@ fn run<R: Read, W: Write>(
         halt: Halt::Full,
     };
     for _ in 0..TURNS {
-        p = turn(
-            reader, writer, p, sheet, program, rows, names, ids, nodes, input, out,
-        )?;
+        p = turn(reader, writer, p, machine, input, out)?;
         if matches!(p.halt, Halt::Over) {
             return Ok(());
         }
@@ -70,18 +64,17 @@ fn answer<R: Read, W: Write>(reader: &mut R, writer: &mut W) -> Result<()> {
         &nodes,
     );
     match made {
-        Ok(()) => run(
-            reader,
-            writer,
-            &sheet[..n],
-            &program,
-            &mut rows,
-            &mut names,
-            &mut ids,
-            &mut nodes,
-            &mut input,
-            &mut out,
-        ),
+        Ok(()) => {
+            let mut machine = Machine {
+                sheet: &sheet[..n],
+                program: &program,
+                rows: &mut rows,
+                names: &mut names,
+                ids: &mut ids,
+                nodes: &mut nodes,
+            };
+            run(reader, writer, &mut machine, &mut input, &mut out)
+        }
         Err(Unmade::Sheet(fault)) => {
             let wrote = put_sheet_refused(&mut out, 0, fault.refusal.number(), fault.place);
             writer.write_all(&out[..wrote])
