@@ -135,6 +135,7 @@ fn end_lines(
     requires { at ≤ 131072 }
     ensures bounds { result ≤ 143360 }
     ensures lent { SameLoans machine.old machine.new }
+    ensures kept { (machine.new.names.now ≡ machine.old.names.now) × (machine.new.ids.now ≡ machine.old.ids.now) × (machine.new.nodes.now ≡ machine.old.nodes.now) }
 {
     let rows = &mut *machine.rows;
     let names = &mut *machine.names;
@@ -158,6 +159,7 @@ pub fn end_call(s: State, input: &[u8], machine: &mut Machine, out: &mut [u8]) -
     requires { Ready s input.now }
     ensures bounds { Left result × (result.size ≡ s.size) }
     ensures lent { SameLoans machine.old machine.new }
+    ensures kept { (machine.new.names.now ≡ machine.old.names.now) × (machine.new.ids.now ≡ machine.old.ids.now) × (machine.new.nodes.now ≡ machine.old.nodes.now) }
 {
     let at = s.at;
     let room = u32_at(input, at + 1).min(512);
@@ -172,16 +174,18 @@ pub fn end_call(s: State, input: &[u8], machine: &mut Machine, out: &mut [u8]) -
     }
 }
 
-pub fn ids_call(s: State, machine: &mut Machine, out: &mut [u8]) -> State
+pub fn ids_call(s: State, machine: &Machine, out: &mut [u8]) -> State
     requires { Within s }
-    ensures bounds { Left result × (result.size ≡ s.size) }
-    ensures lent { SameLoans machine.old machine.new }
+    ensures { Left result × (result.size ≡ s.size) }
 {
-    let rows = &mut *machine.rows;
-    let names = &mut *machine.names;
-    let ids = &mut *machine.ids;
-    let nodes = &mut *machine.nodes;
-    let reply = id_set(machine.sheet, machine.program, rows, names, ids, nodes);
+    let reply = id_set(
+        machine.sheet,
+        machine.program,
+        machine.rows,
+        machine.names,
+        machine.ids,
+        machine.nodes,
+    );
     State {
         at: s.at + 1,
         wrote: put_top(out, s.wrote, reply),

@@ -61,7 +61,7 @@ fn one_call(
         Call::Start => start_call(s, input, &mut machine, out),
         Call::Attributes => attributes_call(s, input, &mut machine, out),
         Call::End => end_call(s, input, &mut machine, out),
-        _ => ids_call(s, &mut machine, out),
+        _ => ids_call(s, &machine, out),
     }
 }
 
