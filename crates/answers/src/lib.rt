@@ -2,7 +2,7 @@
 #![tactic(auto)]
 
 ghost use Rattle.std.specs.Prelude.{◌≡◌, ◌+◌, ◌≤◌, Some, length, IfSome};
-ghost use Rattle.stack.specs.Stores.{stores};
+ghost use Rattle.stack.specs.Lent.{contents, SameLoans};
 ghost use Rattle.answers.specs.Answers.{turn_by, outline_room, turn_of};
 ghost use Rattle.attribute_records.specs.AttributeRecords.{Fits};
 ghost use Rattle.replies.specs.Replies.{answered, saying};
@@ -11,16 +11,12 @@ use attribute_records::Record;
 use cells::part_of;
 use records::record_of;
 use replies::{answer_attributes, answer_end, answer_start};
+use stack::machine::Machine;
 
 // Answers a record that was read, with its outlines.
 #[tactic(auto, unfolding(crate::specs::Answers::turn_by))]
 fn answer_record(
-    sheet: &[u8],
-    program: &[u32],
-    rows: &mut [u32],
-    names: &mut [u8],
-    ids: &mut [u64],
-    nodes: &mut [u16],
+    machine: &mut Machine,
     body: &[u8],
     read: Record,
     outlines: &[u32],
@@ -28,25 +24,22 @@ fn answer_record(
     at: usize,
 ) -> usize
     requires { (at ≤ 4294967296) × Fits read × (1020 ≤ length outlines.now) }
-    ensures nodes_after { answered (Some result) out.new (stores rows.new names.new ids.new nodes.new) ≡ saying (turn_by sheet.now program.now (stores rows.old names.old ids.old nodes.old) body.now (Some read) outlines.now) out.old at }
+    ensures nodes_after { answered (Some result) out.new (contents machine.new) ≡ saying (turn_by machine.old.sheet.now machine.old.program.now (contents machine.old) body.now (Some read) outlines.now) out.old at }
     ensures upper_bound { result ≤ at + 4096 }
+    ensures lent { SameLoans machine.old machine.new }
 {
     match read {
         Record::Start { namespace } => {
             let name = part_of(body, 2, body.len());
-            answer_start(
-                sheet, program, rows, names, ids, nodes, namespace, name, out, at,
-            )
+            answer_start(machine, namespace, name, out, at)
         }
         Record::Attributes { closing, numbers } => {
             let given = &outlines[..numbers];
-            answer_attributes(
-                sheet, program, rows, names, ids, nodes, closing, body, given, out, at,
-            )
+            answer_attributes(machine, closing, body, given, out, at)
         }
         Record::End => {
             let name = part_of(body, 1, body.len());
-            answer_end(sheet, program, rows, names, ids, nodes, name, out, at)
+            answer_end(machine, name, out, at)
         }
     }
 }
@@ -60,24 +53,13 @@ fn outline_room() -> [u32; 1020]
 
 // Answers the record of this body with a line, if it is of its form.
 #[tactic(auto, unfolding(crate::specs::Answers::turn_of))]
-pub fn answer(
-    sheet: &[u8],
-    program: &[u32],
-    rows: &mut [u32],
-    names: &mut [u8],
-    ids: &mut [u64],
-    nodes: &mut [u16],
-    body: &[u8],
-    out: &mut [u8],
-    at: usize,
-) -> Option<usize>
+pub fn answer(machine: &mut Machine, body: &[u8], out: &mut [u8], at: usize) -> Option<usize>
     requires { at ≤ 4294967296 }
-    ensures nodes_after { answered result out.new (stores rows.new names.new ids.new nodes.new) ≡ saying (turn_of sheet.now program.now (stores rows.old names.old ids.old nodes.old) body.now) out.old at }
+    ensures nodes_after { answered result out.new (contents machine.new) ≡ saying (turn_of machine.old.sheet.now machine.old.program.now (contents machine.old) body.now) out.old at }
     ensures within { IfSome result (λ end. end ≤ at + 4096) }
+    ensures lent { SameLoans machine.old machine.new }
 {
     let mut outlines = outline_room();
     let read = record_of(body, &mut outlines)?;
-    Some(answer_record(
-        sheet, program, rows, names, ids, nodes, body, read, &outlines, out, at,
-    ))
+    Some(answer_record(machine, body, read, &outlines, out, at))
 }

@@ -2,17 +2,21 @@
 #![tactic(auto)]
 
 ghost use Rattle.std.specs.Prelude.{◌≡◌, ◌+◌, ◌*◌, ◌≤◌, ◌<◌, length};
+ghost use Rattle.cells.specs.Numbers.{part};
+ghost use Rattle.stack.specs.Lent.{SameLoans};
+ghost use Rattle.calls.specs.States.{Within, Ready, Left};
 
 use case_lines::{put_made, put_sets, put_top};
 use cells::numbers::u32_at;
-use cells::{part_of, put};
+use cells::part_of;
 use ends::id_set;
 use making::fresh_machine;
 use replies::{answer_attributes, answer_start};
 use reply_lines::put_popped;
+use stack::machine::Machine;
 
 // Where the next call stands and where the next line goes, where the machine's sheet lies in the input, and its instruction store's size.
-#[derive(Clone, Copy)]
+#[derive(Clone, Copy, Default)]
 pub struct State {
     pub at: usize,
     pub wrote: usize,
@@ -21,16 +25,21 @@ pub struct State {
     pub size: usize,
 }
 
+impl State {
+    // The machine's sheet, where it lies in the input.
+    pub fn sheet<'i>(self, input: &'i [u8]) -> &'i [u8]
+        ensures { result.now ≡ part input.now self.sheet self.sheet_end }
+    {
+        part_of(input, self.sheet, self.sheet_end)
+    }
+}
+
 // Where the string at a place ends, its length first.
 fn string_end(input: &[u8], at: usize) -> usize
     requires { (length input.now ≤ 131072) × (at ≤ 1048576) }
     ensures { result ≤ 131072 }
 {
-    let end = at + 4 + u32_at(input, at);
-    if input.len() < end {
-        return input.len();
-    }
-    end
+    (at + 4 + u32_at(input, at)).min(input.len())
 }
 
 pub fn make_call(
@@ -43,7 +52,7 @@ pub fn make_call(
     nodes: &[u16],
     out: &mut [u8],
 ) -> State
-    requires { (length input.now ≤ 131072) × (s.at ≤ 131072) × (s.wrote ≤ 131072) }
+    requires { Ready s input.now }
     ensures { (result.at ≤ 131072) × (result.wrote ≤ s.wrote + 4096) × (result.size ≤ length program.new) }
 {
     let at = s.at;
@@ -64,50 +73,25 @@ pub fn make_call(
         wrote: put_made(out, s.wrote, made),
         sheet: at + 13,
         sheet_end: end,
-        size: size,
+        size,
     }
 }
 
-pub fn start_call(
-    s: State,
-    input: &[u8],
-    program: &[u32],
-    rows: &mut [u32],
-    names: &mut [u8],
-    ids: &mut [u64],
-    nodes: &mut [u16],
-    out: &mut [u8],
-) -> State
-    requires { (length input.now ≤ 131072) × (s.at ≤ 131072) × (s.wrote ≤ 131072) }
-    ensures { (result.at ≤ 131072) × (result.wrote ≤ s.wrote + 4096) × (result.size ≡ s.size) }
+pub fn start_call(s: State, input: &[u8], machine: &mut Machine, out: &mut [u8]) -> State
+    requires { Ready s input.now }
+    ensures bounds { (result.at ≤ 131072) × (result.wrote ≤ s.wrote + 4096) × (result.size ≡ s.size) }
+    ensures lent { SameLoans machine.old machine.new }
 {
     let at = s.at;
     let namespace = u32_at(input, at + 1) as u32;
     let end = string_end(input, at + 5);
     let name = part_of(input, at + 9, end);
-    let sheet = part_of(input, s.sheet, s.sheet_end);
-    let wrote = answer_start(
-        sheet, program, rows, names, ids, nodes, namespace, name, out, s.wrote,
-    );
+    let wrote = answer_start(machine, namespace, name, out, s.wrote);
     State {
         at: end,
-        wrote: wrote,
-        sheet: s.sheet,
-        sheet_end: s.sheet_end,
-        size: s.size,
+        wrote,
+        ..s
     }
-}
-
-fn outline_room() -> [u32; 2048]
-    ensures { length result ≡ 2048 }
-{
-    [0; 2048]
-}
-
-fn popped_room() -> [u64; 512]
-    ensures { length result ≡ 512 }
-{
-    [0; 512]
 }
 
 // Reads numbers from a place on, and answers how many there is room for.
@@ -116,136 +100,95 @@ fn read_numbers(input: &[u8], at: usize, n: usize, room: &mut [u32]) -> usize
     ensures { result ≤ length room.new }
 {
     let count = n.min(room.len());
-    let mut i = 0;
-    while i < count {
-        put(room, i, u32_at(input, at + i * 4) as u32);
-        i += 1;
+    for (i, cell) in room[..count].iter_mut().enumerate() {
+        *cell = u32_at(input, at + i * 4) as u32;
     }
     count
 }
 
-pub fn attributes_call(
-    s: State,
-    input: &[u8],
-    program: &[u32],
-    rows: &mut [u32],
-    names: &mut [u8],
-    ids: &mut [u64],
-    nodes: &mut [u16],
-    out: &mut [u8],
-) -> State
-    requires { (length input.now ≤ 131072) × (s.at ≤ 131072) × (s.wrote ≤ 131072) }
-    ensures { (result.at ≤ 262144) × (result.wrote ≤ s.wrote + 4096) × (result.size ≡ s.size) }
+pub fn attributes_call(s: State, input: &[u8], machine: &mut Machine, out: &mut [u8]) -> State
+    requires { Ready s input.now }
+    ensures bounds { (result.at ≤ 262144) × (result.wrote ≤ s.wrote + 4096) × (result.size ≡ s.size) }
+    ensures lent { SameLoans machine.old machine.new }
 {
     let at = s.at;
     let closing = u32_at(input, at + 1);
     let end = string_end(input, at + 5);
     let text = part_of(input, at + 9, end);
-    let mut outlines = outline_room();
+    let mut outlines = [0; 2048];
     let n = read_numbers(input, end + 4, u32_at(input, end), &mut outlines);
-    let sheet = part_of(input, s.sheet, s.sheet_end);
-    let wrote = answer_attributes(
-        sheet,
-        program,
-        rows,
-        names,
-        ids,
-        nodes,
-        closing != 0,
-        text,
-        &outlines[0..n],
-        out,
-        s.wrote,
-    );
+    let wrote = answer_attributes(machine, closing != 0, text, &outlines[0..n], out, s.wrote);
     State {
         at: end + 4 + n * 4,
-        wrote: wrote,
-        sheet: s.sheet,
-        sheet_end: s.sheet_end,
-        size: s.size,
+        wrote,
+        ..s
     }
 }
 
 fn end_lines(
-    sheet: &[u8],
-    program: &[u32],
-    rows: &mut [u32],
-    names: &[u8],
-    ids: &[u64],
-    nodes: &[u16],
+    machine: &mut Machine,
     name: &[u8],
     popped: &mut [u64],
     out: &mut [u8],
     at: usize,
 ) -> usize
     requires { at ≤ 131072 }
-    ensures { result ≤ 143360 }
+    ensures bounds { result ≤ 143360 }
+    ensures lent { SameLoans machine.old machine.new }
+    ensures kept { (machine.new.names.now ≡ machine.old.names.now) × (machine.new.ids.now ≡ machine.old.ids.now) × (machine.new.nodes.now ≡ machine.old.nodes.now) }
 {
-    let answer = ends::end(sheet, program, rows, names, ids, nodes, name, popped);
-    let next = put_popped(out, at, answer);
-    put_sets(out, next, popped, answer)
-}
-
-pub fn end_call(
-    s: State,
-    input: &[u8],
-    program: &[u32],
-    rows: &mut [u32],
-    names: &[u8],
-    ids: &[u64],
-    nodes: &[u16],
-    out: &mut [u8],
-) -> State
-    requires { (length input.now ≤ 131072) × (s.at ≤ 131072) × (s.wrote ≤ 131072) }
-    ensures { (result.at ≤ 262144) × (result.wrote ≤ 143360) × (result.size ≡ s.size) }
-{
-    let at = s.at;
-    let room = u32_at(input, at + 1).min(512);
-    let end = string_end(input, at + 5);
-    let name = part_of(input, at + 9, end);
-    let sheet = part_of(input, s.sheet, s.sheet_end);
-    let mut popped = popped_room();
-    let wrote = end_lines(
-        sheet,
-        program,
+    let rows = &mut *machine.rows;
+    let names = &mut *machine.names;
+    let ids = &mut *machine.ids;
+    let nodes = &mut *machine.nodes;
+    let answer = ends::end(
+        machine.sheet,
+        machine.program,
         rows,
         names,
         ids,
         nodes,
         name,
-        &mut popped[0..room],
-        out,
-        s.wrote,
+        popped,
     );
+    let next = put_popped(out, at, answer);
+    put_sets(out, next, popped, answer)
+}
+
+pub fn end_call(s: State, input: &[u8], machine: &mut Machine, out: &mut [u8]) -> State
+    requires { Ready s input.now }
+    ensures bounds { Left result × (result.size ≡ s.size) }
+    ensures lent { SameLoans machine.old machine.new }
+    ensures kept { (machine.new.names.now ≡ machine.old.names.now) × (machine.new.ids.now ≡ machine.old.ids.now) × (machine.new.nodes.now ≡ machine.old.nodes.now) }
+{
+    let at = s.at;
+    let room = u32_at(input, at + 1).min(512);
+    let end = string_end(input, at + 5);
+    let name = part_of(input, at + 9, end);
+    let mut popped = [0; 512];
+    let wrote = end_lines(machine, name, &mut popped[0..room], out, s.wrote);
     State {
         at: end,
-        wrote: wrote,
-        sheet: s.sheet,
-        sheet_end: s.sheet_end,
-        size: s.size,
+        wrote,
+        ..s
     }
 }
 
-pub fn ids_call(
-    s: State,
-    input: &[u8],
-    program: &[u32],
-    rows: &[u32],
-    names: &[u8],
-    ids: &[u64],
-    nodes: &[u16],
-    out: &mut [u8],
-) -> State
-    requires { (s.at ≤ 131072) × (s.wrote ≤ 131072) }
-    ensures { (result.at ≤ 262144) × (result.wrote ≤ 143360) × (result.size ≡ s.size) }
+pub fn ids_call(s: State, machine: &Machine, out: &mut [u8]) -> State
+    requires { Within s }
+    ensures { Left result × (result.size ≡ s.size) }
 {
-    let sheet = part_of(input, s.sheet, s.sheet_end);
-    let reply = id_set(sheet, program, rows, names, ids, nodes);
+    let reply = id_set(
+        machine.sheet,
+        machine.program,
+        machine.rows,
+        machine.names,
+        machine.ids,
+        machine.nodes,
+    );
     State {
         at: s.at + 1,
         wrote: put_top(out, s.wrote, reply),
-        sheet: s.sheet,
-        sheet_end: s.sheet_end,
-        size: s.size,
+        ..s
     }
 }

@@ -86,9 +86,9 @@ module _ (program nodes : List ℕ) (ranges : Ranges) (c d : Cursor) where
 -- ---- a budget for a range
 
 module _ (limit at stop budget : ℕ) where
-  pub none-past : limit < stop → 0 ≡ affordable limit at stop budget
+  pub none_past : limit < stop → 0 ≡ affordable limit at stop budget
   unfolding affordable left_in
-  none-past h = let z : ltb budget 0 ≡ false = le-ltb budget 0 (omega arith) in rw (lt-leb _ _ h, z)
+  none_past h = let z : ltb budget 0 ≡ false = le-ltb budget 0 (omega arith) in rw (lt-leb _ _ h, z)
 
   pub capped : stop ≤ limit → min (stop - at) budget ≡ affordable limit at stop budget
   unfolding affordable left_in

@@ -13,6 +13,7 @@ const ROW_WORDS: usize = 8;
 const KEY: usize = 7;
 
 // How many instructions of a range a budget allows; none of a range that ends past the limit.
+#[tactic(auto, using(crate::proofs::Searches::none_past, crate::proofs::Searches::capped))]
 fn stretch(at: usize, stop: usize, limit: u16, budget: usize) -> usize
     ensures { (result ≡ affordable limit at stop budget) × ((result ≤ budget) × (at + result ≤ max at (2 ^ 16))) }
 {

@@ -2,7 +2,7 @@
 use mathlib.Core.Path.{◌≡◌, refl, ap, ◌∙◌}
 use mathlib.Core.Bool.{Bool, true, false, not}
 use mathlib.Core.List.{List}
-use Prim.Native.Nat.{ℕ, ◌+◌, ◌-◌, ◌*◌, ◌^◌, ◌<◌}
+use Prim.Native.Nat.{ℕ, ◌+◌, ◌-◌, ◌^◌, ◌<◌}
 use native.Mathlib.Nat.{zero-add}
 use borrow.Author.Tests.{not-true, not-false}
 use lib.ListN.{length, get_or, length-append}
@@ -10,18 +10,14 @@ use Rattle.std.specs.Prelude.{Some}
 use Rattle.cells.specs.Stretches.{written, length-cells}
 use Rattle.names.specs.Names.{name_key}
 use Rattle.rules.specs.Attributes.{attributes_of}
-use Rattle.sheet.specs.Parser.{node_count, root_count}
+use Rattle.sheet.specs.Parser.{node_count}
 use Rattle.stack.specs.Stores.{held_kind, held_found, found_from}
 use Rattle.stack.specs.Laws.{written-cat}
-use Rattle.cursors.specs.Cursors.{first_cursor}
 use Rattle.exec.specs.Scans.{Sought, found_in, answer_from, tag_scan, attribute_scan}
 use Rattle.cursors.specs.declared.Cursor.{Cursor}
 use Rattle.cursors.specs.declared.Ranges.{Ranges}
 use Rattle.exec.specs.declared.scan.Scanned.{Scanned}
 use Rattle.course.specs.Course.{is_html, child_position, type_position, live_ranges, first_live, held_cursor, begin, resumed}
-
-pub first-is : (sheet rows : List ℕ) (d slot roots : ℕ) (c : Cursor) → d ≡ get_or rows 0 0 → slot ≡ get_or rows (16 + d * 8 + 2) 0 → roots ≡ root_count sheet → c ≡ first_cursor slot roots → c ≡ first_live sheet rows
-first-is sheet rows d slot roots c e f g h = h ∙ (λ i. first_cursor ((f ∙ ap (λ (k : ℕ). get_or rows (16 + k * 8 + 2) 0) e) i) (g i))
 
 -- ---- the scan of a start tag
 

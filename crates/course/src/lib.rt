@@ -18,9 +18,14 @@ use node_tests::Tag;
 use node_tests::attribute_matcher::AttributeMatcher;
 use shapes::counts_types;
 use stack::machine::Machine;
+use stack::{
+    ANCESTORS, ANCESTORS_TOP, HELD_AT, HELD_KIND, HELD_SLOT, HELD_STAGE, HELD_STOP, OPENS,
+    PARENTS_MARK, PARENTS_TOP, ROW, ROWS,
+};
 use waiting::held_found;
 
 // Kept as it is: the header's word 6 holds namespace and void as one number, of which `kind_of`, `is_html` and `has_content` of specs/Course.antt speak.
+#[tactic(auto, unfolding(crate::specs::Course::kind_of))]
 pub fn kind_of(namespace: u32, void: bool) -> u32
     requires { namespace ≤ 2 }
     ensures { result ≡ kind_of namespace void }
@@ -28,12 +33,14 @@ pub fn kind_of(namespace: u32, void: bool) -> u32
     if void { namespace + 4 } else { namespace }
 }
 
+#[tactic(auto, unfolding(crate::specs::Course::is_html))]
 pub fn is_html(kind: u32) -> bool
     ensures { result ≡ is_html kind }
 {
     kind % 4 == 0
 }
 
+#[tactic(auto, unfolding(crate::specs::Course::has_content))]
 pub fn has_content(kind: u32, self_closing: bool) -> bool
     ensures { result ≡ has_content kind self_closing }
 {
@@ -44,12 +51,14 @@ pub fn has_content(kind: u32, self_closing: bool) -> bool
     }
 }
 
+#[tactic(auto, unfolding(crate::specs::Course::child_position))]
 fn child_position(rows: &[u32]) -> u32
     ensures { result ≡ child_position rows.now }
 {
     inc(child_count(rows))
 }
 
+#[tactic(auto, unfolding(crate::specs::Course::type_position))]
 fn type_position(rows: &[u32], names: &[u8], name: &[u8]) -> u32
     ensures { result ≡ type_position rows.now names.now name.now }
 {
@@ -64,9 +73,9 @@ fn live_ranges(sheet: &[u8], rows: &[u32]) -> Ranges
     ensures { result ≡ live_ranges sheet.now rows.now }
 {
     Ranges {
-        parents_top: number_at(rows, 1),
-        ancestors_from: 4096,
-        ancestors_top: 4096 + number_at(rows, 2),
+        parents_top: number_at(rows, PARENTS_TOP),
+        ancestors_from: ANCESTORS,
+        ancestors_top: ANCESTORS + number_at(rows, ANCESTORS_TOP),
         limit: u16_at(sheet, 5) as u16,
     }
 }
@@ -74,20 +83,18 @@ fn live_ranges(sheet: &[u8], rows: &[u32]) -> Ranges
 fn first_live(sheet: &[u8], rows: &[u32]) -> Cursor
     ensures { result ≡ first_live sheet.now rows.now }
 {
-    Cursor::first(
-        number_at(rows, 16 + number_at(rows, 0) * 8 + 2),
-        u16_at(sheet, 7),
-    )
+    let top = ROWS + number_at(rows, OPENS) * ROW;
+    Cursor::first(number_at(rows, top + PARENTS_MARK), u16_at(sheet, 7))
 }
 
 fn held_cursor(rows: &[u32]) -> Cursor
     ensures { result ≡ held_cursor rows.now }
 {
     Cursor {
-        stage: get(rows, 8),
-        slot: number_at(rows, 9),
-        at: number_at(rows, 10),
-        stop: number_at(rows, 11),
+        stage: get(rows, HELD_STAGE),
+        slot: number_at(rows, HELD_SLOT),
+        at: number_at(rows, HELD_AT),
+        stop: number_at(rows, HELD_STOP),
     }
 }
 
@@ -146,7 +153,7 @@ pub fn resume_scan(
 {
     let count = held_found(machine.rows, machine.nodes, found);
     let scan = scan_of(machine, name);
-    let html = is_html(get(machine.rows, 6));
+    let html = is_html(get(machine.rows, HELD_KIND));
     let attributes = AttributeMatcher::new(input, outlines, html);
     let from = held_cursor(machine.rows);
     let budget = (u16_at(machine.sheet, 5) - count) as u16;

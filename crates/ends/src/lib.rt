@@ -30,6 +30,7 @@ fn end_lowered(
 }
 
 /// An end tag. The ids of the popped go to `out` in opening order, two words each; words past them stay.
+// Kept as it is: the C interface lends names, ids and nodes read-only here, and a Machine has them to write.
 pub fn end(
     sheet: &[u8],
     program: &[u32],

@@ -8,6 +8,7 @@ ghost use Rattle.inputs.specs.Inputs.{whole_run, whole_of};
 use lines::{put_refused, put_sheet_refused};
 use making::{Unmade, fresh_machine};
 use records::sheet_end;
+use stack::machine::Machine;
 use trace::feed;
 
 // Writes the lines of an input and answers how many bytes they are. Lines past the end of `out` are lost.
@@ -29,18 +30,15 @@ pub fn whole(
     let made = fresh_machine(sheet, false, program, rows, names, ids, nodes);
     match made {
         Ok(()) => {
-            let fed = feed(
+            let mut machine = Machine {
                 sheet,
                 program,
                 rows,
                 names,
                 ids,
                 nodes,
-                &input[n..],
-                true,
-                0,
-                out,
-            );
+            };
+            let fed = feed(&mut machine, &input[n..], true, 0, out);
             fed.wrote
         }
         Err(unmade) => match unmade {

@@ -37,6 +37,7 @@ fn flags_of(esi: bool, types: bool) -> u32
 }
 
 /// Makes a machine: checks and compiles the sheet, fixes ESI, whatever the stores held.
+// Kept as it is: the C interface lends names, ids and nodes read-only here, and a Machine has them to write.
 pub fn fresh_machine(
     sheet: &[u8],
     esi: bool,

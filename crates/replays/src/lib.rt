@@ -2,11 +2,36 @@
 #![tactic(auto)]
 
 ghost use Rattle.std.specs.Prelude.{◌≡◌, ◌≤◌, ◌<◌, length};
+ghost use Rattle.calls.specs.States.{Ready, Left};
 
 use calls::{State, attributes_call, end_call, ids_call, make_call, start_call};
-use cells::number_at;
+use cells::get;
+use stack::machine::Machine;
 
-// The call at hand, by its kind; any other ends the case.
+/// A call, as its first byte says.
+#[derive(Clone, Copy, Debug, PartialEq, Eq)]
+enum Call {
+    Make,
+    Start,
+    Attributes,
+    End,
+    Ids,
+}
+
+impl From<u8> for Call {
+    // Any other byte asks for the id set.
+    fn from(byte: u8) -> Call {
+        match byte {
+            1 => Call::Make,
+            2 => Call::Start,
+            3 => Call::Attributes,
+            4 => Call::End,
+            _ => Call::Ids,
+        }
+    }
+}
+
+// The call at hand.
 fn one_call(
     s: State,
     input: &[u8],
@@ -17,28 +42,35 @@ fn one_call(
     nodes: &mut [u16],
     out: &mut [u8],
 ) -> State
-    requires { (length input.now ≤ 131072) × (s.at ≤ 131072) × (s.wrote ≤ 131072) × (s.size ≤ length program.old) }
-    ensures { (result.at ≤ 262144) × (result.wrote ≤ 143360) × (result.size ≤ length program.new) }
+    requires { Ready s input.now × (s.size ≤ length program.old) }
+    ensures { Left result × (result.size ≤ length program.new) }
 {
-    let kind = number_at(input, s.at);
-    if kind == 1 {
+    let call = Call::from(get(input, s.at));
+    if call == Call::Make {
         return make_call(s, input, program, rows, names, ids, nodes, out);
     }
-    let n = s.size;
-    let part = &program[0..n];
-    if kind == 2 {
-        return start_call(s, input, part, rows, names, ids, nodes, out);
+    let mut machine = Machine {
+        sheet: s.sheet(input),
+        program: &program[..s.size],
+        rows,
+        names,
+        ids,
+        nodes,
+    };
+    match call {
+        Call::Start => start_call(s, input, &mut machine, out),
+        Call::Attributes => attributes_call(s, input, &mut machine, out),
+        Call::End => end_call(s, input, &mut machine, out),
+        _ => ids_call(s, &machine, out),
     }
-    if kind == 3 {
-        return attributes_call(s, input, part, rows, names, ids, nodes, out);
-    }
-    if kind == 4 {
-        return end_call(s, input, part, rows, names, ids, nodes, out);
-    }
-    ids_call(s, input, part, rows, names, ids, nodes, out)
 }
 
-// All calls of a case, at most 65,536 of them. Answers where the lines end.
+// Past this many bytes no line of a case begins.
+const LONGEST: usize = 131072;
+
+const MOST_CALLS: u32 = 65536;
+
+// All calls of a case, so many at most. Answers where the lines end.
 pub fn replay_calls(
     input: &[u8],
     program: &mut [u32],
@@ -51,23 +83,15 @@ pub fn replay_calls(
     requires { (length input.now ≤ 131072) × (length out.old ≡ 131072) }
     ensures { result ≤ length out.new }
 {
-    let mut s = State {
-        at: 0,
-        wrote: 0,
-        sheet: 0,
-        sheet_end: 0,
-        size: 0,
-    };
-    let mut left: u64 = 65536;
-    while 0 < left {
+    let mut s = State::default();
+    for _ in 0..MOST_CALLS {
         if input.len() <= s.at {
             return s.wrote;
         }
         s = one_call(s, input, program, rows, names, ids, nodes, out);
-        if 131072 < s.wrote {
+        if LONGEST < s.wrote {
             return 0;
         }
-        left -= 1;
     }
     0
 }

@@ -5,8 +5,6 @@ use Prim.Native.Nat.{ℕ}
 use Rattle.text.specs.Text.{Wrote}
 use Rattle.accepting.specs.Accepting.{Outcome, outcome, Reply}
 use Rattle.ends.specs.Ends.{ended, end_call, Popped}
-use Rattle.stack.specs.Lent.{contents}
-use Rattle.stack.specs.declared.machine.Machine.{Machine}
 use Rattle.stack.specs.Stores.{Stores, stores}
 use Rattle.reply_lines.specs.ReplyLines.{reply_line, popped_line}
 use Rattle.replies.specs.Replies.{spoken, end_turn, popped_room, answered, saying}
@@ -15,11 +13,6 @@ use Rattle.std.specs.Prelude.{Some}
 pub said-line : (o : Outcome) (rep : Reply) (s' : Stores) (out out' : List ℕ) (at r : ℕ) → outcome rep s' ≡ o → Wrote out at (reply_line rep) r out' → answered (Some r) out' s' ≡ saying (spoken o) out at
 unfolding saying spoken
 said-line o rep s' out out' at r e w = rw (← e, w.0, w.1)
-
--- where the call was given the machine as one value, the stores after it are those that the machine lent
-pub said-machine : (o : Outcome) (rep : Reply) (m : Machine) (rows names ids nodes out out' : List ℕ) (at r : ℕ) → outcome rep (contents m) ≡ o → rows ≡ m.rows.now → names ≡ m.names.now → ids ≡ m.ids.now → nodes ≡ m.nodes.now
-    → Wrote out at (reply_line rep) r out' → answered (Some r) out' (stores rows names ids nodes) ≡ saying (spoken o) out at
-said-machine o rep m rows names ids nodes out out' at r e f g h k w = rw (f, g, h, k) (said-line o rep (contents m) out out' at r e w)
 
 pub said-pop : (sheet program : List ℕ) (s : Stores) (name popped : List ℕ) (a : Popped) (rows' popped' out out' : List ℕ) (at r : ℕ)
     → popped ≡ popped_room → ended a rows' popped' ≡ end_call sheet program s name popped → Wrote out at (popped_line a) r out'

@@ -7,26 +7,24 @@ ghost use Rattle.std.specs.Prelude.{◌≡◌, length};
 use block_ends::Halt;
 use lines::{put_refused, put_sheet_refused};
 use making::{Unmade, fresh_machine};
+use stack::machine::Machine;
 use std::io::{Read, Result, Write};
 use std::process::ExitCode;
 use trace_blocks::{Progress, read_sheet, turn};
 
-// A proved loop has to end: 2 ^ 46 turns are more than any run takes, and no place of a trace wraps in them.
+// A proved loop has to end: so many turns are more than any run takes, and no place of a trace wraps in them.
+const TURNS: u64 = 1 << 46;
+
+// Answers a trace block by block, until it is over.
 fn run<R: Read, W: Write>(
     reader: &mut R,
     writer: &mut W,
-    sheet: &[u8],
-    program: &[u32],
-    rows: &mut [u32],
-    names: &mut [u8],
-    ids: &mut [u64],
-    nodes: &mut [u16],
+    machine: &mut Machine,
     input: &mut [u8],
     out: &mut [u8],
 ) -> Result<()>
     requires { (length input.old ≡ 131072) × (length out.old ≡ 65536) }
 {
-    let mut turns: u64 = 70368744177664;
     let mut p = Progress {
         at: 0,
         end: 0,
@@ -34,45 +32,30 @@ fn run<R: Read, W: Write>(
         last: false,
         halt: Halt::Full,
     };
-    while 0 < turns {
-        p = turn(
-            reader, writer, p, sheet, program, rows, names, ids, nodes, input, out,
-        )?;
+    for _ in 0..TURNS {
+        p = turn(reader, writer, p, machine, input, out)?;
         if matches!(p.halt, Halt::Over) {
             return Ok(());
         }
-        turns -= 1;
     }
     Ok(())
 }
 
-// Room for the longest sheet, and for a block's lines.
-fn large_buffer() -> [u8; 65536]
-    ensures { length result ≡ 65536 }
-{
-    [0; 65536]
-}
-
-// Room for a block of the trace: two of the longest records.
-fn block() -> [u8; 131072]
-    ensures { length result ≡ 131072 }
-{
-    [0; 131072]
-}
-
 // Answers an input: its sheet, then its trace.
 fn answer<R: Read, W: Write>(reader: &mut R, writer: &mut W) -> Result<()> {
-    let mut sheet = large_buffer();
+    // The longest sheet.
+    let mut sheet = [0; 65536];
     let mut program = [0u32; 8192];
     let mut rows = [0u32; 3096];
     let mut names = [0u8; 49216];
     let mut ids = [0u64; 514];
     let mut nodes = [0u16; 6144];
-    let mut input = block();
-    let mut out = large_buffer();
+    // A block of the trace, which is two of the longest records, and its lines.
+    let mut input = [0; 131072];
+    let mut out = [0; 65536];
     let n = read_sheet(reader, &mut sheet)?;
     let made = fresh_machine(
-        &sheet[0..n],
+        &sheet[..n],
         false,
         &mut program,
         &mut rows,
@@ -81,25 +64,24 @@ fn answer<R: Read, W: Write>(reader: &mut R, writer: &mut W) -> Result<()> {
         &nodes,
     );
     match made {
-        Ok(()) => run(
-            reader,
-            writer,
-            &sheet[0..n],
-            &program,
-            &mut rows,
-            &mut names,
-            &mut ids,
-            &mut nodes,
-            &mut input,
-            &mut out,
-        ),
+        Ok(()) => {
+            let mut machine = Machine {
+                sheet: &sheet[..n],
+                program: &program,
+                rows: &mut rows,
+                names: &mut names,
+                ids: &mut ids,
+                nodes: &mut nodes,
+            };
+            run(reader, writer, &mut machine, &mut input, &mut out)
+        }
         Err(Unmade::Sheet(fault)) => {
             let wrote = put_sheet_refused(&mut out, 0, fault.refusal.number(), fault.place);
-            writer.write_all(&out[0..wrote])
+            writer.write_all(&out[..wrote])
         }
         Err(Unmade::Refused(refusal)) => {
             let wrote = put_refused(&mut out, 0, refusal.number());
-            writer.write_all(&out[0..wrote])
+            writer.write_all(&out[..wrote])
         }
     }
 }

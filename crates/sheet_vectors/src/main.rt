@@ -18,14 +18,7 @@ use streams::read_full;
 enum Verdict {
     Agrees,
     Differs,
-    NoMore,
     Broken,
-}
-
-fn filled<T: Copy, const N: usize>(cell: T) -> [T; N]
-    ensures { length result ≡ N }
-{
-    [cell; N]
 }
 
 // The number and the place of a fault; zeros where there is none.
@@ -48,36 +41,30 @@ fn judge(s: &[u8], store: &mut [u32], number: u8, place: usize) -> Verdict {
     }
 }
 
-// Reads a case and judges it.
+// Reads a case and judges it; none where no case follows.
 fn replay<R: Read>(
     reader: &mut R,
     sheet: &mut [u8; 65536],
     store: &mut [u32; 8192],
-) -> Result<Verdict> {
+) -> Result<Option<Verdict>> {
     let mut head = [0u8; 11];
     let got = read_full(reader, &mut head)?;
     if got == 0 {
-        return Ok(Verdict::NoMore);
+        return Ok(None);
     }
     if got < 11 {
-        return Ok(Verdict::Broken);
+        return Ok(Some(Verdict::Broken));
     }
     let n = u32_at(&head, 0);
     let places = u16_at(&head, 4);
     if 65536 < n || 1024 < places {
-        return Ok(Verdict::Broken);
+        return Ok(Some(Verdict::Broken));
     }
     if read_full(reader, &mut sheet[0..n])? < n {
-        return Ok(Verdict::Broken);
+        return Ok(Some(Verdict::Broken));
     }
     let end = places * 8;
-    Ok(judge(&sheet[0..n], &mut store[0..end], head[6], u32_at(&head, 7)))
-}
-
-fn say<W: Write>(to: &mut W, word: &[u8], n: u64, rest: &[u8]) -> Result<()> {
-    to.write_all(word)?;
-    write!(to, "{n}")?;
-    to.write_all(rest)
+    Ok(Some(judge(&sheet[..n], &mut store[..end], head[6], u32_at(&head, 7))))
 }
 
 fn replay_all<R: Read, W: Write>(
@@ -88,10 +75,10 @@ fn replay_all<R: Read, W: Write>(
 ) -> Result<()> {
     for n in 0..1_000_000_000u64 {
         match replay(reader, sheet, store)? {
-            Verdict::Agrees => {}
-            Verdict::Differs => return say(to, b"case ", n, b" differs\n"),
-            Verdict::NoMore => return say(to, b"", n, b" agree\n"),
-            Verdict::Broken => return say(to, b"case ", n, b" cannot be read\n"),
+            Some(Verdict::Agrees) => {}
+            Some(Verdict::Differs) => return writeln!(to, "case {n} differs"),
+            Some(Verdict::Broken) => return writeln!(to, "case {n} cannot be read"),
+            None => return writeln!(to, "{n} agree"),
         }
     }
     Ok(())
@@ -99,8 +86,8 @@ fn replay_all<R: Read, W: Write>(
 
 fn replay_file(rt: &(impl Files + Print)) -> Result<()> {
     // The longest sheet, and 1,024 instructions.
-    let mut sheet: [u8; 65536] = filled(0);
-    let mut store: [u32; 8192] = filled(0);
+    let mut sheet = [0; 65536];
+    let mut store = [0; 8192];
     let mut file = fs::open(rt, "cases")?;
     replay_all(&mut file, &mut writer(rt), &mut sheet, &mut store)
 }

@@ -11,6 +11,8 @@ use lib.ListN.{length}
 use Rattle.std.specs.Prelude.{Option, None, Some}
 use Rattle.cells.specs.Numbers.{part, be16}
 use Rattle.records.specs.Records.{record_end}
+use Rattle.stack.specs.Lent.{SameLoans}
+use Rattle.stack.specs.declared.machine.Machine.{Machine}
 use Rattle.stack.specs.Stores.{Stores}
 use Rattle.answers.specs.Answers.{turn_of}
 use Rattle.replies.specs.Replies.{answered, saying}
@@ -30,6 +32,14 @@ end-bounds block at cut end e f = by (ltb (length block) (at + 2 + be16 block at
         let l = ltb-false (length block) (at + 2 + be16 block at) t in
         let z : end ≡ at + 2 + be16 block at = cc in
         (omega arith, omega arith)
+
+pub lent-on : (a b c : Machine) → SameLoans a b → SameLoans b c → SameLoans a c
+lent-on a b c l m = record { sheet = m.sheet ∙ l.sheet; program = m.program ∙ l.program; rows = m.rows ∙ l.rows; names = m.names ∙ l.names; ids = m.ids ∙ l.ids; nodes = m.nodes ∙ l.nodes }
+
+-- a record is answered by the sheet and the program that were lent first
+pub turned : (first machine : Machine) → SameLoans first machine → (s s₁ : Stores) (body out o₁ : List ℕ) (said : Option ℕ) (wrote : ℕ) → answered said o₁ s₁ ≡ saying (turn_of machine.sheet.now machine.program.now s body) out wrote
+    → answered said o₁ s₁ ≡ saying (turn_of first.sheet.now first.program.now s body) out wrote
+turned first machine l s s₁ body out o₁ said wrote t = rw (← l.sheet, ← l.program) t
 
 module _ (sheet program block : List ℕ) (last : Bool) (place : ℕ) where
   pub run-done : (n at wrote : ℕ) (out : List ℕ) (s : Stores) → length block ≤ at → ran (fed at wrote Halt.Hungry) out s ≡ answers_from sheet program block last place n at wrote out s

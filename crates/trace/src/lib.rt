@@ -2,22 +2,18 @@
 #![tactic(auto)]
 
 ghost use Rattle.std.specs.Prelude.{◌≡◌, ◌+◌, ◌≤◌, length};
-ghost use Rattle.stack.specs.Stores.{stores};
+ghost use Rattle.stack.specs.Lent.{contents, SameLoans};
 ghost use Rattle.trace.specs.Run.{ran, answers_from, feed_of};
 
 use answers::answer;
 use block_ends::{Fed, Halt, bad_trace, cut_short, first_record};
 use cells::part_of;
 use records::record_end;
+use stack::machine::Machine;
 
 // Answers the records of a block from `first` on.
 fn answer_records(
-    sheet: &[u8],
-    program: &[u32],
-    rows: &mut [u32],
-    names: &mut [u8],
-    ids: &mut [u64],
-    nodes: &mut [u16],
+    machine: &mut Machine,
     block: &[u8],
     first: usize,
     last: bool,
@@ -25,8 +21,9 @@ fn answer_records(
     out: &mut [u8],
 ) -> Fed
     requires { (length block.now ≤ 1048576) × (first ≤ length block.now) × (place ≤ 9223372036854775808) × (length out.old ≤ 1048576) }
-    ensures nodes_after { ran result out.new (stores rows.new names.new ids.new nodes.new) ≡ answers_from sheet.now program.now block.now last place (length block.now) first 0 out.old (stores rows.old names.old ids.old nodes.old) }
+    ensures nodes_after { ran result out.new (contents machine.new) ≡ answers_from machine.old.sheet.now machine.old.program.now block.now last place (length block.now) first 0 out.old (contents machine.old) }
     ensures used_in_bounds { (result.used ≤ length block.now) × (result.wrote ≤ length out.new) }
+    ensures lent { SameLoans machine.old machine.new }
 {
     let mut at = first;
     let mut wrote = 0;
@@ -42,7 +39,7 @@ fn answer_records(
             return cut_short(out, at, wrote, place, last);
         };
         let body = part_of(block, at + 2, end);
-        let Some(next) = answer(sheet, program, rows, names, ids, nodes, body, out, wrote) else {
+        let Some(next) = answer(machine, body, out, wrote) else {
             return bad_trace(out, at, wrote, place);
         };
         wrote = next;
@@ -57,26 +54,14 @@ fn answer_records(
 
 // Answers the records of a block that stands at `place` of the trace; the version stands first. `last`: no bytes come after the block.
 #[tactic(auto, unfolding(crate::specs::Run::feed_of, crate::specs::Run::feed_by))]
-pub fn feed(
-    sheet: &[u8],
-    program: &[u32],
-    rows: &mut [u32],
-    names: &mut [u8],
-    ids: &mut [u64],
-    nodes: &mut [u16],
-    block: &[u8],
-    last: bool,
-    place: u64,
-    out: &mut [u8],
-) -> Fed
+pub fn feed(machine: &mut Machine, block: &[u8], last: bool, place: u64, out: &mut [u8]) -> Fed
     requires { (length block.now ≤ 1048576) × (place ≤ 9223372036854775808) × (8192 ≤ length out.old) × (length out.old ≤ 1048576) }
-    ensures nodes_after { ran result out.new (stores rows.new names.new ids.new nodes.new) ≡ feed_of sheet.now program.now block.now last place out.old (stores rows.old names.old ids.old nodes.old) }
+    ensures nodes_after { ran result out.new (contents machine.new) ≡ feed_of machine.old.sheet.now machine.old.program.now block.now last place out.old (contents machine.old) }
     ensures used_in_bounds { (result.used ≤ length block.now) × (result.wrote ≤ length out.new) }
+    ensures lent { SameLoans machine.old machine.new }
 {
     match first_record(block, place) {
-        Some(first) => answer_records(
-            sheet, program, rows, names, ids, nodes, block, first, last, place, out,
-        ),
+        Some(first) => answer_records(machine, block, first, last, place, out),
         // Only the version byte itself may still come.
         None => {
             let faulty = last || !block.is_empty();

@@ -5,12 +5,13 @@ ghost use Rattle.std.specs.Prelude.{◌≡◌, ◌≢◌, ◌+◌, ◌<◌, ◌�
 ghost use Rattle.std.specs.IoError.{error_kind};
 ghost use Rattle.std.specs.Io.KnownBytes.{Appends, Consumes, IsAtEnd, Keeps};
 ghost use Rattle.records.specs.Sheets.{sheet_length, sheet_end};
-ghost use Rattle.stack.specs.Stores.{stores};
+ghost use Rattle.stack.specs.Lent.{contents, SameLoans};
 ghost use Rattle.trace_blocks.specs.Progress.{Sound, run_of, advanced, Refilled, Turned, InFront};
 ghost use Rattle.streams.specs.Failing.{ConsumesFront};
 
 use block_ends::{Fed, Halt};
 use records::{keep, sheet_length};
+use stack::machine::Machine;
 use std::io::{ErrorKind, Read, Result, Write};
 use streams::{read_behind, read_between};
 use trace::feed;
@@ -70,34 +71,19 @@ fn advance(p: Progress, fed: Fed) -> Progress
 fn answer_block<W: Write>(
     writer: &mut W,
     p: Progress,
-    sheet: &[u8],
-    program: &[u32],
-    rows: &mut [u32],
-    names: &mut [u8],
-    ids: &mut [u64],
-    nodes: &mut [u16],
+    machine: &mut Machine,
     input: &[u8],
     out: &mut [u8],
 ) -> Result<Progress>
     requires { Sound p (length input.now) × (length input.now ≡ 131072) × (length out.old ≡ 65536) × (p.place ≤ 9223372036854775808) }
     ensures sound { IfOk result (λ q. Sound q (length input.now) × (q.place ≤ p.place + 131072)) }
-    ensures answered { let run = run_of sheet.now program.now p input.now out.old (stores rows.old names.old ids.old nodes.old) in (out.new ≡ run.out) × (stores rows.new names.new ids.new nodes.new ≡ run.after) }
-    ensures value { let run = run_of sheet.now program.now p input.now out.old (stores rows.old names.old ids.old nodes.old) in IfOk result (λ q. q ≡ advanced p run.fed) }
+    ensures lent { SameLoans machine.old machine.new }
+    ensures answered { let run = run_of machine.old.sheet.now machine.old.program.now p input.now out.old (contents machine.old) in (out.new ≡ run.out) × (contents machine.new ≡ run.after) }
+    ensures value { let run = run_of machine.old.sheet.now machine.old.program.now p input.now out.old (contents machine.old) in IfOk result (λ q. q ≡ advanced p run.fed) }
     // After a failed write nothing is known of what the writer took.
-    ensures written { let run = run_of sheet.now program.now p input.now out.old (stores rows.old names.old ids.old nodes.old) in OnOk result (Appends (W.contents writer.old) (W.contents writer.new) (take run.fed.wrote run.out)) }
+    ensures written { let run = run_of machine.old.sheet.now machine.old.program.now p input.now out.old (contents machine.old) in OnOk result (Appends (W.contents writer.old) (W.contents writer.new) (take run.fed.wrote run.out)) }
 {
-    let fed = feed(
-        sheet,
-        program,
-        rows,
-        names,
-        ids,
-        nodes,
-        &input[p.at..p.end],
-        p.last,
-        p.place,
-        out,
-    );
+    let fed = feed(machine, &input[p.at..p.end], p.last, p.place, out);
     writer.write_all(&out[..fed.wrote])?;
     Ok(advance(p, fed))
 }
@@ -107,27 +93,21 @@ pub fn turn<R: Read, W: Write>(
     reader: &mut R,
     writer: &mut W,
     p: Progress,
-    sheet: &[u8],
-    program: &[u32],
-    rows: &mut [u32],
-    names: &mut [u8],
-    ids: &mut [u64],
-    nodes: &mut [u16],
+    machine: &mut Machine,
     input: &mut [u8],
     out: &mut [u8],
 ) -> Result<Progress>
     requires { Sound p (length input.old) × (length input.old ≡ 131072) × (length out.old ≡ 65536) × (p.place ≤ 9223372036854775808) }
     ensures sound { IfOk result (λ q. Sound q (length input.new) × (q.place ≤ p.place + 131072)) }
-    ensures answered { let run = run_of sheet.now program.now p input.old out.old (stores rows.old names.old ids.old nodes.old) in (out.new ≡ run.out) × (stores rows.new names.new ids.new nodes.new ≡ run.after) }
-    ensures value { let run = run_of sheet.now program.now p input.old out.old (stores rows.old names.old ids.old nodes.old) in let next = advanced p run.fed in IfOk result (λ q. Turned next.halt (R.remaining reader.old) (R.remaining reader.new) next input.old q input.new) }
+    ensures lent { SameLoans machine.old machine.new }
+    ensures answered { let run = run_of machine.old.sheet.now machine.old.program.now p input.old out.old (contents machine.old) in (out.new ≡ run.out) × (contents machine.new ≡ run.after) }
+    ensures value { let run = run_of machine.old.sheet.now machine.old.program.now p input.old out.old (contents machine.old) in let next = advanced p run.fed in IfOk result (λ q. Turned next.halt (R.remaining reader.old) (R.remaining reader.new) next input.old q input.new) }
     // After a failed write nothing is known of what the writer took.
-    ensures written { let run = run_of sheet.now program.now p input.old out.old (stores rows.old names.old ids.old nodes.old) in OnOk result (Appends (W.contents writer.old) (W.contents writer.new) (take run.fed.wrote run.out)) }
+    ensures written { let run = run_of machine.old.sheet.now machine.old.program.now p input.old out.old (contents machine.old) in OnOk result (Appends (W.contents writer.old) (W.contents writer.new) (take run.fed.wrote run.out)) }
     ensures failed { OnErr result (Keeps (R.remaining reader.old) (R.remaining reader.new)) }
-    ensures kept { let run = run_of sheet.now program.now p input.old out.old (stores rows.old names.old ids.old nodes.old) in OnErr result ((input.new ≡ input.old) ⊎ InFront (advanced p run.fed) input.old input.new) }
+    ensures kept { let run = run_of machine.old.sheet.now machine.old.program.now p input.old out.old (contents machine.old) in OnErr result ((input.new ≡ input.old) ⊎ InFront (advanced p run.fed) input.old input.new) }
 {
-    let next = answer_block(
-        writer, p, sheet, program, rows, names, ids, nodes, input, out,
-    )?;
+    let next = answer_block(writer, p, machine, input, out)?;
     match next.halt {
         Halt::Hungry => refill(reader, next, input),
         _ => Ok(next),

@@ -14,27 +14,34 @@ use std::process::ExitCode;
 use std::rt::Files;
 use streams::read_full;
 
-#[derive(Clone, Copy)]
-pub enum Verdict {
+/// What a case runs: a whole input, as the program does, or calls of the library.
+#[derive(Clone, Copy, Debug, PartialEq, Eq)]
+enum Kind {
     Program,
     Library,
+}
+
+impl From<u8> for Kind {
+    fn from(byte: u8) -> Kind {
+        match byte {
+            1 => Kind::Program,
+            _ => Kind::Library,
+        }
+    }
+}
+
+#[derive(Clone, Copy, Debug, PartialEq, Eq)]
+enum Verdict {
+    Agrees(Kind),
     Differs,
-    NoMore,
 }
 
 // Where two texts first differ, or the length of the first.
 fn first_difference(a: &[u8], b: &[u8]) -> usize {
-    let mut i = 0;
-    while i < a.len() {
-        if b.len() <= i {
-            return i;
-        }
-        if a[i] != b[i] {
-            return i;
-        }
-        i += 1;
-    }
-    i
+    a.iter()
+        .zip(b)
+        .position(|(x, y)| x != y)
+        .unwrap_or(a.len().min(b.len()))
 }
 
 // Reads a string of the file: its length, then its bytes. More bytes than there is room for is as if there were none.
@@ -53,7 +60,7 @@ fn read_string<R: Read>(reader: &mut R, room: &mut [u8]) -> Result<usize>
 }
 
 // Runs a case of this kind on its input and writes what it answers. The stores are no machine's before it makes one.
-fn answers(kind: u8, input: &[u8], out: &mut [u8]) -> usize
+fn answers(kind: Kind, input: &[u8], out: &mut [u8]) -> usize
     requires { (length input.now ≤ 131072) × (length out.old ≡ 131072) }
     ensures { result ≤ length out.new }
 {
@@ -62,8 +69,8 @@ fn answers(kind: u8, input: &[u8], out: &mut [u8]) -> usize
     let mut names = [171u8; 49216];
     let mut ids = [171u64; 514];
     let mut nodes = [43947u16; 6144];
-    if kind == 1 {
-        return whole(
+    match kind {
+        Kind::Program => whole(
             input,
             &mut program,
             &mut rows,
@@ -71,29 +78,23 @@ fn answers(kind: u8, input: &[u8], out: &mut [u8]) -> usize
             &mut ids,
             &mut nodes,
             out,
-        );
+        ),
+        Kind::Library => replay_calls(
+            input,
+            &mut program,
+            &mut rows,
+            &mut names,
+            &mut ids,
+            &mut nodes,
+            out,
+        ),
     }
-    replay_calls(
-        input,
-        &mut program,
-        &mut rows,
-        &mut names,
-        &mut ids,
-        &mut nodes,
-        out,
-    )
-}
-
-fn say<W: Write>(to: &mut W, text: &[u8], n: u64, rest: &[u8]) -> Result<()> {
-    to.write_all(text)?;
-    write!(to, "{n}")?;
-    to.write_all(rest)
 }
 
 // Compares, and names a case that differs.
 fn compare<W: Write>(
     to: &mut W,
-    kind: u8,
+    kind: Kind,
     name: &[u8],
     got: &[u8],
     expected: &[u8],
@@ -101,102 +102,55 @@ fn compare<W: Write>(
     let at = first_difference(got, expected);
     if at < got.len() {
         to.write_all(name)?;
-        say(to, b" differs at byte ", at as u64, b"\n")?;
+        writeln!(to, " differs at byte {at}")?;
         return Ok(Verdict::Differs);
     }
     if at < expected.len() {
         to.write_all(name)?;
-        say(to, b" ends at byte ", at as u64, b"\n")?;
+        writeln!(to, " ends at byte {at}")?;
         return Ok(Verdict::Differs);
     }
-    if kind == 1 {
-        return Ok(Verdict::Program);
-    }
-    Ok(Verdict::Library)
+    Ok(Verdict::Agrees(kind))
 }
 
-// Room for the largest input or output of a case.
-fn room() -> [u8; 131072]
-    ensures { length result ≡ 131072 }
-{
-    [0; 131072]
-}
-
-// Reads a case and runs it.
-fn replay<R: Read, W: Write>(reader: &mut R, to: &mut W) -> Result<Verdict> {
-    let mut kind = [0u8; 1];
-    let mut name = [0u8; 256];
-    let mut input = room();
-    let mut expected = room();
-    let mut out = room();
+// Reads a case and runs it; none where no case follows.
+fn replay<R: Read, W: Write>(reader: &mut R, to: &mut W) -> Result<Option<Verdict>> {
+    let mut kind = [0; 1];
+    let mut name = [0; 256];
+    // The largest input or output of a case.
+    let mut input = [0; 131072];
+    let mut expected = [0; 131072];
+    let mut out = [0; 131072];
     if read_full(reader, &mut kind)? < 1 {
-        return Ok(Verdict::NoMore);
+        return Ok(None);
     }
+    let kind = Kind::from(kind[0]);
     let named = read_string(reader, &mut name)?;
     let n = read_string(reader, &mut input)?;
     let m = read_string(reader, &mut expected)?;
-    let wrote = answers(kind[0], &input[0..n], &mut out);
-    compare(
-        to,
-        kind[0],
-        &name[0..named],
-        &out[0..wrote],
-        &expected[0..m],
-    )
+    let wrote = answers(kind, &input[..n], &mut out);
+    let verdict = compare(to, kind, &name[..named], &out[..wrote], &expected[..m])?;
+    Ok(Some(verdict))
 }
 
-// The cases that agree.
-#[derive(Clone, Copy)]
-pub struct Agree {
-    pub programs: u64,
-    pub libraries: u64,
-}
+const MOST_CASES: u64 = 1_000_000;
 
-fn tally(agree: Agree, verdict: Verdict) -> Agree
-    requires { (agree.programs < 4294967296) × (agree.libraries < 4294967296) }
-    ensures { (result.programs ≤ agree.programs + 1) × (result.libraries ≤ agree.libraries + 1) }
-{
-    match verdict {
-        Verdict::Program => Agree {
-            programs: agree.programs + 1,
-            libraries: agree.libraries,
-        },
-        Verdict::Library => Agree {
-            programs: agree.programs,
-            libraries: agree.libraries + 1,
-        },
-        Verdict::Differs => agree,
-        Verdict::NoMore => agree,
-    }
-}
-
-// Whether no case follows; then how many agree is said, unless one differed.
-fn is_over<W: Write>(to: &mut W, agree: Agree, verdict: Verdict) -> Result<bool> {
-    match verdict {
-        Verdict::Program => Ok(false),
-        Verdict::Library => Ok(false),
-        Verdict::Differs => Ok(true),
-        Verdict::NoMore => {
-            say(to, b"", agree.programs, b" program cases and ")?;
-            say(to, b"", agree.libraries, b" library runs agree\n")?;
-            Ok(true)
-        }
-    }
-}
-
+// Replays cases as long as they agree, and says how many do where all of them did.
 fn replay_all<R: Read, W: Write>(reader: &mut R, to: &mut W) -> Result<()> {
-    let mut agree = Agree {
-        programs: 0,
-        libraries: 0,
-    };
-    let mut left: u64 = 1000000;
-    while 0 < left {
-        let verdict = replay(reader, to)?;
-        if is_over(to, agree, verdict)? {
-            return Ok(());
+    let mut programs = 0u64;
+    let mut libraries = 0u64;
+    for _ in 0..MOST_CASES {
+        match replay(reader, to)? {
+            Some(Verdict::Agrees(Kind::Program)) => programs += 1,
+            Some(Verdict::Agrees(Kind::Library)) => libraries += 1,
+            Some(Verdict::Differs) => return Ok(()),
+            None => {
+                return writeln!(
+                    to,
+                    "{programs} program cases and {libraries} library runs agree"
+                );
+            }
         }
-        agree = tally(agree, verdict);
-        left -= 1;
     }
     Ok(())
 }

@@ -1,8 +1,5 @@
-use Prim.Native.Nat.{◌+◌, ◌≤◌}
+use Rattle.std.proofs.Common.{◌≤◌}
 use Rattle.vectors.proofs.replay_all.Given as goal
 
-abbrev pub invariant-loop-left : goal.invariant-loop-left
-invariant-loop-left g l = (l.agree.programs + l.left ≤ 1000000) × (l.agree.libraries + l.left ≤ 1000000)
-
-abbrev pub decreases-loop-left : goal.decreases-loop-left
-decreases-loop-left g l = l.left
+abbrev pub invariant-loop : goal.invariant-loop
+invariant-loop g l = (l.programs ≤ l.counter) × (l.libraries ≤ l.counter)
