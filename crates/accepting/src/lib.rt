@@ -14,6 +14,7 @@ use shapes::counts_types;
 use stack::machine::Machine;
 
 /// The answer to a start tag or to attributes: it matches, with its ids and the content flag; or it waits for its attributes.
+// Kept as it is: has the shape of Option, but that a tag waits is an answer with a name, in the documents and in `Reply`.
 #[derive(Clone, Copy)]
 pub enum Answer {
     Match { ids: [u64; 2], content: bool },

@@ -49,6 +49,7 @@ pub fn next_candidate<'p, 'n>(
 {
     let mut c = from;
     let mut left = budget;
+    // Kept as it is: no index is counted, a budget is spent in stretches of any length, and a jump may end it.
     while 0 < left {
         let count = stretch(c.at, c.stop, live.ranges.limit, left);
         let a = first_keyed(live.program, key, c.at, count);

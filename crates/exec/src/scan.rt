@@ -69,6 +69,7 @@ impl<'s, 'n, 't> Scan<'s, 'n, 't> {
         let mut left = budget as usize;
         let mut bytes = self.sheet.len();
         let mut all = count as usize;
+        // Kept as it is: each turn takes the cursor and the budgets that the one before left, which no range yields.
         while let Some((d, more, rest)) = self.next(c, left, bytes) {
             let a = d.at as u16;
             c = d.next();

@@ -8,7 +8,7 @@ ghost use Rattle.stack.specs.Stores.{stores};
 
 use compiler::compile;
 use refusals::{Fault, Refusal};
-use shapes::is_sized;
+use shapes::{MADE_MARK, is_sized};
 use waiting::fresh_rows;
 use weighing::cell_of;
 
@@ -27,8 +27,13 @@ impl From<Fault> for Unmade {
     }
 }
 
-// What the rows of a machine bear.
-const MADE_MARK: u32 = 1383429737;
+impl From<Refusal> for Unmade {
+    ghost from_gives = { λ refusal e. e ≡ Unmade.Refused refusal };
+
+    fn from(refusal: Refusal) -> Unmade {
+        Unmade::Refused(refusal)
+    }
+}
 
 fn flags_of(esi: bool, types: bool) -> u32
     ensures { result ≡ flags_of esi types }
@@ -50,7 +55,7 @@ pub fn fresh_machine(
     ensures { fresh (made_of result) program.new rows.new ≡ fresh_call sheet.now esi program.old (stores rows.old names.now ids.now nodes.now) }
 {
     if !is_sized(rows, names, ids, nodes) {
-        return Err(Unmade::Refused(Refusal::StoreTooShort));
+        return Err(Refusal::StoreTooShort.into());
     }
     let types = compile(sheet, program)?;
     fresh_rows(rows, MADE_MARK, cell_of(sheet.len()), flags_of(esi, types));

@@ -19,6 +19,7 @@ pub fn put_ids(out: &mut [u8], at: usize, words: &[u64]) -> usize
 {
     let mut next = at;
     let mut from = 0;
+    // Kept as it is: each id is found from the one before; an iterator of the set would be a second form of next_id.
     while let Some(id) = next_id(words, from) {
         put(out, next, b' ');
         next = put_decimal(out, next + 1, id as u64);

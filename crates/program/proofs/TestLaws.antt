@@ -4,56 +4,57 @@ use mathlib.Core.Path.{◌≡◌, refl}
 use mathlib.Core.Bool.{Bool, true, false, cond, not}
 use mathlib.Core.List.{List, map}
 use native.Mathlib.Numerals.{add-one}
-use native.Mathlib.Omega.{arith}
 use lib.Dec.{eqb}
+use denote.Bor.{Bor}
 use lib.IntN.{ℤ}
 use lib.ListN.{length, get_or}
-use borrow.Author.Tests.{ne_eqb, eqb-true}
-use Rattle.cells.specs.Numbers.{part, be16, i32_at}
+use borrow.Author.Tests.{ne_eqb}
+use Rattle.cells.specs.Numbers.{part, be16}
 use Rattle.names.specs.Names.{name_key}
-use Rattle.node_tests.specs.Tests.{any, unmatchable, local_name, nth_child, nth_of_type, tag_kind, read_tag_test}
+use Rattle.node_tests.specs.declared.TagTest.{TagTest as ReadTagTest}
+use Rattle.node_tests.specs.declared.TagTest.TheVariants.{Any, Unmatchable, LocalName, NthChild, NthOfType}
+use Rattle.node_tests.specs.Readings.{tag_test_of}
+use Rattle.node_tests.specs.Tests.{tag_kind, read_tag_test}
 use Rattle.node_records.specs.Records.{end_of, tests_from}
 use Rattle.sheet.specs.Meaning.{of_type}
 use Rattle.sheet.specs.Spelling.{TestsInside}
 use Rattle.program.specs.Program.{tag_key, test_key, node_key, any_of_type}
 
--- no key where the kind is not 3
-other_key : (n b₁ b₄ b₅ : Bool) (name : List ℕ) (x y z w : ℤ) → 0 ≡ cond n 0 (tag_key (cond b₁ any (cond false (local_name name) (cond b₄ (nth_child x y) (cond b₅ (nth_of_type z w) unmatchable)))))
-unfolding tag_key
-other_key true b₁ b₄ b₅ name x y z w = refl
-other_key false true b₄ b₅ name x y z w = refl
-other_key false false true b₅ name x y z w = refl
-other_key false false false true name x y z w = refl
-other_key false false false false name x y z w = refl
+-- a test that is read as no local name has no key
+no-name : (t : ReadTagTest) → ((name : Bor (List ℕ)) → t ≡ LocalName name → ⊥) → 0 ≡ tag_key (tag_test_of t)
+unfolding tag_key tag_test_of
+no-name Any h = refl
+no-name Unmatchable h = refl
+no-name (LocalName name) h = absurd (h name refl)
+no-name (NthChild step offset) h = refl
+no-name (NthOfType step offset) h = refl
+
+no_key_of : (negated : Bool) → ◌≡◌ {A = ℕ} 0 (cond negated 0 0)
+no_key_of true = refl
+no_key_of false = refl
 
 module _ (test : List ℕ) where
-  pub key_other : (get_or test 0 0 ≡ 3 → ⊥) → 0 ≡ test_key (read_tag_test test)
-  unfolding test_key read_tag_test tag_kind
-  key_other a = rw (ne_eqb _ _ a) (other_key (not (eqb (get_or test 1 0) 0)) (eqb (get_or test 0 0) 1) (eqb (get_or test 0 0) 4) (eqb (get_or test 0 0) 5) (part test 2 (length test)) (i32_at (part test 2 (length test)) 0) (i32_at (part test 2 (length test)) 4) (i32_at (part test 2 (length test)) 0) (i32_at (part test 2 (length test)) 4))
-
   pub key_negated : (get_or test 1 0 ≡ 0 → ⊥) → 0 ≡ test_key (read_tag_test test)
   unfolding test_key read_tag_test
   key_negated a = rw (ne_eqb _ _ a) refl
 
-  pub key_name : get_or test 0 0 ≡ 3 → get_or test 1 0 ≡ 0 → (name : List ℕ) → name ≡ part test 2 (length test) → name_key name ≡ test_key (read_tag_test test)
-  unfolding test_key read_tag_test tag_kind tag_key
-  key_name a b name e = rw (a, b, e) refl
+  module _ (t : ReadTagTest) (kind : ℕ) (k : kind ≡ get_or test 0 0) (body : List ℕ) (b : body ≡ part test 2 (length test)) (e : tag_test_of t ≡ tag_kind kind body) where
+    pub key_other : ((name : Bor (List ℕ)) → t ≡ LocalName name → ⊥) → 0 ≡ test_key (read_tag_test test)
+    unfolding test_key read_tag_test
+    key_other h = rw (← k, ← b, ← e, ← no-name t h) (no_key_of (not (eqb (get_or test 1 0) 0)))
 
--- kind 5 and no other
-of-kind : (k : ℕ) (name : List ℕ) (x y z w : ℤ) (b₁ b₃ b₄ b₅ : Bool) → eqb k 1 ≡ b₁ → eqb k 3 ≡ b₃ → eqb k 4 ≡ b₄ → eqb k 5 ≡ b₅ → b₅ ≡ of_type (cond b₁ any (cond b₃ (local_name name) (cond b₄ (nth_child x y) (cond b₅ (nth_of_type z w) unmatchable))))
-unfolding of_type
-of-kind k name x y z w true b₃ b₄ true e₁ e₃ e₄ e₅ = let p = eqb-true k 1 e₁ in let q = eqb-true k 5 e₅ in absurd (omega arith)
-of-kind k name x y z w true b₃ b₄ false e₁ e₃ e₄ e₅ = refl
-of-kind k name x y z w false true b₄ true e₁ e₃ e₄ e₅ = let p = eqb-true k 3 e₃ in let q = eqb-true k 5 e₅ in absurd (omega arith)
-of-kind k name x y z w false true b₄ false e₁ e₃ e₄ e₅ = refl
-of-kind k name x y z w false false true true e₁ e₃ e₄ e₅ = let p = eqb-true k 4 e₄ in let q = eqb-true k 5 e₅ in absurd (omega arith)
-of-kind k name x y z w false false true false e₁ e₃ e₄ e₅ = refl
-of-kind k name x y z w false false false true e₁ e₃ e₄ e₅ = refl
-of-kind k name x y z w false false false false e₁ e₃ e₄ e₅ = refl
+    pub key_name : get_or test 1 0 ≡ 0 → (name : Bor (List ℕ)) → t ≡ LocalName name → name_key name.now ≡ test_key (read_tag_test test)
+    unfolding test_key read_tag_test tag_test_of tag_key
+    key_name a name h = rw (a, ← k, ← b, ← e, h) refl
 
-pub kind-5 : (test : List ℕ) (kind : ℕ) → kind ≡ get_or test 0 0 → eqb kind 5 ≡ of_type (read_tag_test test).test
-unfolding read_tag_test tag_kind
-kind-5 test kind e = rw e (of-kind (get_or test 0 0) _ _ _ _ _ (eqb (get_or test 0 0) 1) (eqb (get_or test 0 0) 3) (eqb (get_or test 0 0) 4) (eqb (get_or test 0 0) 5) refl refl refl refl)
+-- one that is read as no nth-of-type is none
+pub no-type : (t : ReadTagTest) → ((step offset : ℤ) → t ≡ NthOfType step offset → ⊥) → false ≡ of_type (tag_test_of t)
+unfolding of_type tag_test_of
+no-type Any h = refl
+no-type Unmatchable h = refl
+no-type (LocalName name) h = refl
+no-type (NthChild step offset) h = refl
+no-type (NthOfType step offset) h = absurd (h step offset refl)
 
 module _ (s : List ℕ) where
   pub first_key : (n at : ℕ) → (n ≡ 0 → ⊥) → (k : ℕ) → k ≡ be16 s at → (test : List ℕ) → test ≡ part s (at + 2) (at + 2 + k) → test_key (read_tag_test test) ≡ node_key (map read_tag_test (tests_from s n at))

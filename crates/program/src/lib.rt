@@ -11,27 +11,25 @@ ghost use Rattle.sheet.specs.Spelling.{TestsInside, Inside};
 ghost use Rattle.program.specs.Program.{test_key, node_key, words, row, any_of_type, instruction_at};
 
 use cells::numbers::u16_at;
-use cells::{number_at, part_of, put};
+use cells::{get, number_at, part_of, put};
 use names::name_key;
 use node_records::Links;
-
-// The kinds of tests that say something of a tag's name.
-const LOCAL_NAME: usize = 3;
-
-const NTH_OF_TYPE: usize = 5;
+use node_tests::TagTest;
 
 /// How many words a row has.
 pub const ROW_WORDS: usize = 8;
 
 // The name key of one test: its name's if it is a local name, not negated.
-#[tactic(auto, using(crate::proofs::TestLaws::key_other, crate::proofs::TestLaws::key_negated, crate::proofs::TestLaws::key_name))]
+#[tactic(auto, using(crate::proofs::TestLaws::key_negated, crate::proofs::TestLaws::key_name))]
 fn test_key(test: &[u8]) -> u32
     ensures { result ≡ test_key (read_tag_test test.now) }
 {
-    if number_at(test, 0) == LOCAL_NAME && number_at(test, 1) == 0 {
-        name_key(part_of(test, 2, test.len()))
-    } else {
-        0
+    if get(test, 1) != 0 {
+        return 0;
+    }
+    match TagTest::read(get(test, 0), part_of(test, 2, test.len())) {
+        TagTest::LocalName(name) => name_key(name),
+        _ => 0,
     }
 }
 
@@ -47,11 +45,14 @@ fn node_key(s: &[u8], count: usize, at: usize) -> u32
     }
 }
 
-// Kind 5.
+// Of nth-of-type, also negated.
 fn is_of_type(test: &[u8]) -> bool
     ensures { result ≡ of_type (read_tag_test test.now).test }
 {
-    number_at(test, 0) == NTH_OF_TYPE
+    matches!(
+        TagTest::read(get(test, 0), part_of(test, 2, test.len())),
+        TagTest::NthOfType { .. }
+    )
 }
 
 // Is a test of kind 5 among the `count` tests at `at`, which end before `end`?

@@ -38,9 +38,10 @@ pub const NAME_LIMIT: usize = 63;
 
 pub const NODE_LIMIT: usize = 1024;
 
-// The mark of a store in which a machine was made, and the flags' highest value.
-pub const MADE_MARK: usize = 1383429737;
+// The mark of rows in which a machine was made.
+pub const MADE_MARK: u32 = 1383429737;
 
+// The flags' highest value.
 pub const ALL_FLAGS: usize = 3;
 
 pub fn is_esi_on(rows: &[u32]) -> bool
@@ -87,7 +88,7 @@ pub fn is_shaped(sheet: &[u8], program: &[u32], rows: &[u32]) -> bool
     ensures { result ≡ shaped sheet.now program.now rows.now }
 {
     let count = u16_at(sheet, 5);
-    number_at(rows, MARK) == MADE_MARK
+    get(rows, MARK) == MADE_MARK
         && number_at(rows, SHEET) == sheet.len()
         && count <= NODE_LIMIT
         && count * INSTRUCTION <= program.len()

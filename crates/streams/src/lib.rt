@@ -53,6 +53,7 @@ pub fn read_full<R: Read>(reader: &mut R, room: &mut [u8]) -> Result<usize>
     ensures retried { IfErr result (λ e. error_kind e ≢ ErrorKind.Interrupted) }
 {
     let mut done = 0;
+    // Kept as it is: it steps by what a read brings, which no range yields.
     while done < room.len() {
         let n = read_behind(reader, room, done)?;
         if n == 0 {

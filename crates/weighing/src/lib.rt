@@ -34,12 +34,13 @@ pub fn is_bad_name(name: &[u8]) -> bool
 pub fn lower_into(name: &[u8], out: &mut [u8])
     ensures { out.new ≡ written out.old 0 (map lower_of name.now) }
 {
-    for i in 0..name.len() {
-        put(out, i, lower(name[i]));
+    for (i, &b) in name.iter().enumerate() {
+        put(out, i, lower(b));
     }
 }
 
 // Start tag, before its name is looked for: 22, 20, 21, 25.
+// Kept as it is: the C interface hands any number as namespace, of which refusal 21 speaks.
 #[tactic(auto, unfolding(crate::specs::Weighing::tag_refusal))]
 pub fn check_tag(rows: &[u32], namespace: u32, name: &[u8]) -> Result<(), Refusal>
     ensures { number_of result ≡ tag_refusal rows.now namespace name.now }

@@ -1,11 +1,13 @@
-use Rattle.std.proofs.Common.{not, sym, ap, ◌∙◌}
+use Rattle.std.proofs.Common.{not, ap, ◌∙◌}
 use Rattle.refusals.specs.Numbers.{judged}
-use Rattle.making.specs.Making.{fresh}
+use Rattle.std.specs.Prelude.{Err}
+use Rattle.making.specs.declared.Unmade.{Unmade}
+use Rattle.making.specs.Making.{made_of, fresh}
 use Rattle.making.proofs.Calling.{handed_on, fresh-unsized, fresh-refused, fresh-made}
 use Rattle.making.proofs.fresh_machine.Goals as goal
 
 pub returns-then-not-is_sized : goal.returns-then-not-is_sized
-returns-then-not-is_sized c = fresh-unsized _ _ _ _ _ c.is_sized.ensures (ap not c.if-not-is_sized.true)
+returns-then-not-is_sized c = ap (λ (u : Unmade). fresh (made_of (Err u)) c.args.program.now c.args.rows.now) c.into.ensures ∙ fresh-unsized _ _ _ _ _ c.is_sized.ensures (ap not c.if-not-is_sized.true)
 
 pub returns-in_err-types : goal.returns-in_err-types
 returns-in_err-types c =
