@@ -39,7 +39,18 @@ fn answer_record(
         }
         Record::End => {
             let name = part_of(body, 1, body.len());
-            answer_end(machine, name, out, at)
+            let rows = &mut *machine.rows;
+            answer_end(
+                machine.sheet,
+                machine.program,
+                rows,
+                machine.names,
+                machine.ids,
+                machine.nodes,
+                name,
+                out,
+                at,
+            )
         }
     }
 }

@@ -4,7 +4,7 @@
 ghost use Rattle.std.specs.Prelude.{◌≡◌, ◌+◌, ◌≤◌, length, IfSome};
 ghost use Rattle.text.specs.Places.{IsBufferPlace};
 ghost use Rattle.block_ends.specs.Places.{IsTracePlace};
-ghost use Rattle.block_ends.specs.BlockEnds.{bad_fed, bad_out, cut_fed, cut_out, begin_of};
+ghost use Rattle.block_ends.specs.BlockEnds.{bad_fed, bad_out, cut_fed, cut_out, begin_of, no_version};
 
 use lines::put_bad_trace;
 
@@ -66,4 +66,11 @@ pub fn first_record(block: &[u8], place: u64) -> Option<usize>
         [1, ..] => Some(1),
         _ => None,
     }
+}
+
+// Whether a block without the version is at fault: only the version byte itself may still come.
+pub fn no_version(block: &[u8], last: bool) -> bool
+    ensures { result ≡ no_version block.now last }
+{
+    last || !block.is_empty()
 }

@@ -126,47 +126,56 @@ pub fn attributes_call(s: State, input: &[u8], machine: &mut Machine, out: &mut 
 }
 
 fn end_lines(
-    machine: &mut Machine,
+    sheet: &[u8],
+    program: &[u32],
+    rows: &mut [u32],
+    names: &[u8],
+    ids: &[u64],
+    nodes: &[u16],
     name: &[u8],
     popped: &mut [u64],
     out: &mut [u8],
     at: usize,
 ) -> usize
     requires { at ≤ 131072 }
-    ensures bounds { result ≤ 143360 }
-    ensures lent { SameLoans machine.old machine.new }
-    ensures kept { (machine.new.names.now ≡ machine.old.names.now) × (machine.new.ids.now ≡ machine.old.ids.now) × (machine.new.nodes.now ≡ machine.old.nodes.now) }
+    ensures { result ≤ 143360 }
 {
-    let rows = &mut *machine.rows;
-    let names = &mut *machine.names;
-    let ids = &mut *machine.ids;
-    let nodes = &mut *machine.nodes;
-    let answer = ends::end(
-        machine.sheet,
-        machine.program,
-        rows,
-        names,
-        ids,
-        nodes,
-        name,
-        popped,
-    );
+    let answer = ends::end(sheet, program, rows, names, ids, nodes, name, popped);
     let next = put_popped(out, at, answer);
     put_sets(out, next, popped, answer)
 }
 
-pub fn end_call(s: State, input: &[u8], machine: &mut Machine, out: &mut [u8]) -> State
+// Kept as it is: who has names, ids and nodes only to read can call it too, and a Machine has them to write.
+pub fn end_call(
+    s: State,
+    input: &[u8],
+    program: &[u32],
+    rows: &mut [u32],
+    names: &[u8],
+    ids: &[u64],
+    nodes: &[u16],
+    out: &mut [u8],
+) -> State
     requires { Ready s input.now }
-    ensures bounds { Left result × (result.size ≡ s.size) }
-    ensures lent { SameLoans machine.old machine.new }
-    ensures kept { (machine.new.names.now ≡ machine.old.names.now) × (machine.new.ids.now ≡ machine.old.ids.now) × (machine.new.nodes.now ≡ machine.old.nodes.now) }
+    ensures { Left result × (result.size ≡ s.size) }
 {
     let at = s.at;
     let room = u32_at(input, at + 1).min(512);
     let end = string_end(input, at + 5);
     let name = part_of(input, at + 9, end);
     let mut popped = [0; 512];
-    let wrote = end_lines(machine, name, &mut popped[0..room], out, s.wrote);
+    let wrote = end_lines(
+        s.sheet(input),
+        program,
+        rows,
+        names,
+        ids,
+        nodes,
+        name,
+        &mut popped[0..room],
+        out,
+        s.wrote,
+    );
     State {
         at: end,
         wrote,
@@ -174,18 +183,21 @@ pub fn end_call(s: State, input: &[u8], machine: &mut Machine, out: &mut [u8]) -
     }
 }
 
-pub fn ids_call(s: State, machine: &Machine, out: &mut [u8]) -> State
+// Kept as it is: all stores are read here, and a Machine has them to write.
+pub fn ids_call(
+    s: State,
+    input: &[u8],
+    program: &[u32],
+    rows: &[u32],
+    names: &[u8],
+    ids: &[u64],
+    nodes: &[u16],
+    out: &mut [u8],
+) -> State
     requires { Within s }
     ensures { Left result × (result.size ≡ s.size) }
 {
-    let reply = id_set(
-        machine.sheet,
-        machine.program,
-        machine.rows,
-        machine.names,
-        machine.ids,
-        machine.nodes,
-    );
+    let reply = id_set(s.sheet(input), program, rows, names, ids, nodes);
     State {
         at: s.at + 1,
         wrote: put_top(out, s.wrote, reply),

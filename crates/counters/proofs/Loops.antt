@@ -1,14 +1,15 @@
 -- One law for each turn and each way out of the loops.
-use mathlib.Core.Path.{◌≡◌, sym, ◌∙◌, ap}
+use mathlib.Core.Path.{◌≡◌, refl, sym, subst, ◌∙◌, ap}
 use mathlib.Core.Bool.{Bool, true, false}
 use mathlib.Core.List.{List}
-use Prim.Native.Nat.{ℕ, suc, ◌+◌, ◌-◌, ◌<◌, ◌≤◌}
+use Prim.Native.Nat.{ℕ, zero, suc, ◌+◌, ◌-◌, ◌<◌, ◌≤◌}
 use native.Mathlib.Omega.{arith}
 use native.Mathlib.Numerals.{add-one}
 use borrow.Author.Tests.{eq-eqb, ne_eqb, lt-ltb, le-ltb}
 use lib.Dec.{ltb}
 use lib.ListN.{length, get_or, drop, drop_of_length-le}
-use Rattle.std.proofs.Common.{Option, Some, None, cond}
+use Rattle.std.proofs.Common.{Option, Some, None, cond, unwrap_or}
+use Rattle.std.proofs.lemmas.Bool.{ltb-false}
 use lib.Seq.{drop-cons}
 use Rattle.cells.specs.Stretches.{cells_or, cells_from, length-cells}
 use Rattle.letters.specs.BytesLaws.{equal-ne}
@@ -68,3 +69,29 @@ module _ (rows names x : List ℕ) (i top : ℕ) (h : i < top) (n : ℕ) (b : Bo
 pub pair-none : (rows names x : List ℕ) (i top : ℕ) → top ≤ i → None ≡ found (find_pair rows names x i (top - i)) top
 unfolding find_pair
 pair-none rows names x i top h = let e : top - i ≡ 0 = omega arith in rw (e, le-ltb i top h)
+
+-- Where the search of n pairs from pair i on ends: no sooner than it began, and at most n pairs on.
+abbrev Ends : (found i n : ℕ) → Type 0
+Ends found i n = (i ≤ found) × (found ≤ i + n)
+
+here-or-behind : (b : Bool) (found i n : ℕ) → Ends found (i + 1) n → Ends (cond b i found) i (suc n)
+here-or-behind true found i n later = (omega arith, omega arith)
+here-or-behind false found i n later = (omega (arith, later.0), omega (arith, later.1))
+
+find-ends : (rows names x : List ℕ) (i n : ℕ) → Ends (find_pair rows names x i n) i n
+unfolding find_pair
+find-ends rows names x i zero = (omega arith, omega arith)
+find-ends rows names x i (suc n) = here-or-behind (holds_name names (pair_name_at i) (get_or rows (pair_at i) 0) x) (find_pair rows names x (i + 1) n) i n (find-ends rows names x (i + 1) n)
+
+else-behind : (found mark top : ℕ) (b : Bool) → ltb found top ≡ b → Ends found mark (top - mark) → found ≡ unwrap_or (cond b (Some found) None) (mark + (top - mark))
+else-behind found mark top true k e = refl
+else-behind found mark top false k e = let g : top ≤ found = ltb-false found top k in omega (arith, g, e.0, e.1)
+
+-- What is known of a pair says where its search ended, also where there is none.
+pub pair-place : (rows names x : List ℕ) (r : Option ℕ) → r ≡ cond (known rows names x) (Some (pair_of rows names x)) None
+    → pair_of rows names x ≡ unwrap_or r (row_word rows (opens rows) 4 + (pairs_top rows - row_word rows (opens rows) 4))
+unfolding pair_of known
+pair-place rows names x r e =
+    let mark : ℕ = row_word rows (opens rows) 4 in
+    subst (λ (q : Option ℕ). pair_of rows names x ≡ unwrap_or q (mark + (pairs_top rows - mark))) (sym e)
+    (else-behind (pair_of rows names x) mark (pairs_top rows) (known rows names x) refl (find-ends rows names x mark (pairs_top rows - mark)))

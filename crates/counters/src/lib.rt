@@ -1,9 +1,9 @@
 //! What is counted at each level: children, and names where types are counted (ChildCounter, TypedChildCounterMap).
 #![tactic(auto)]
 
-ghost use Rattle.std.specs.Prelude.{◌≡◌, ◌<◌, ◌≤◌, ◌^◌, cond, Some, None, IfSome, length};
+ghost use Rattle.std.specs.Prelude.{◌≡◌, ◌<◌, ◌≤◌, ◌^◌, cond, Some, None, IfSome, length, ◌+◌, ◌-◌, unwrap_or};
 ghost use Rattle.cells.specs.Numbers.{IsPlace};
-ghost use Rattle.stack.specs.Stores.{name_limit, holds_name, pair_of, known, times_in, children, one_more, name_counted_rows, name_counted_names, counted_rows, counted_names};
+ghost use Rattle.stack.specs.Stores.{name_limit, holds_name, opens, pairs_top, row_word, pair_of, known, times_in, children, one_more, name_counted_rows, name_counted_names, counted_rows, counted_names};
 
 use cells::{get, number_at, put};
 use stack::copies::copy;
@@ -31,6 +31,8 @@ pub fn holds_name(names: &[u8], at: usize, n: usize, name: &[u8]) -> bool
 pub fn find_pair(rows: &[u32], names: &[u8], name: &[u8]) -> Option<usize>
     ensures pair { result ≡ cond (known rows.now names.now name.now) (Some (pair_of rows.now names.now name.now)) None }
     ensures bound { IfSome result (λ i. i < 2 ^ 32) }
+    // Where there is none, `pair_of` is where its search ends: the top, or a mark past the top in a damaged row.
+    ensures place { let mark = row_word rows.now (opens rows.now) 4 in pair_of rows.now names.now name.now ≡ unwrap_or result (mark + (pairs_top rows.now - mark)) }
 {
     let first = number_at(rows, ROWS + number_at(rows, OPENS) * ROW + PAIRS_MARK);
     let top = number_at(rows, PAIRS_TOP);

@@ -17,7 +17,7 @@ use names::name_key;
 use node_tests::Tag;
 use node_tests::attribute_matcher::AttributeMatcher;
 use shapes::counts_types;
-use stack::machine::Machine;
+use stack::machine::View;
 use stack::{
     ANCESTORS, ANCESTORS_TOP, HELD_AT, HELD_KIND, HELD_SLOT, HELD_STAGE, HELD_STOP, OPENS,
     PARENTS_MARK, PARENTS_TOP, ROW, ROWS,
@@ -99,7 +99,7 @@ fn held_cursor(rows: &[u32]) -> Cursor
 }
 
 // The scan of the tag that comes now or waits.
-fn scan_of<'m, 'x, 'n>(machine: &'x Machine<'m>, name: &'n [u8]) -> Scan<'m, 'x, 'n>
+fn scan_of<'m, 'n>(machine: &View<'m>, name: &'n [u8]) -> Scan<'m, 'm, 'n>
     ensures sheet { result.sheet.now ≡ machine.now.sheet.now }
     ensures program { result.live.program.now ≡ machine.now.program.now }
     ensures nodes { result.live.nodes.now ≡ machine.now.nodes.now }
@@ -126,7 +126,7 @@ fn scan_of<'m, 'x, 'n>(machine: &'x Machine<'m>, name: &'n [u8]) -> Scan<'m, 'x,
 }
 
 // The scan of a tag that comes now: HTML with the tag alone; SVG and MathML wait before the first instruction.
-pub fn begin_scan(machine: &Machine, name: &[u8], kind: u32, found: &mut [u16]) -> Scanned
+pub fn begin_scan(machine: &View, name: &[u8], kind: u32, found: &mut [u16]) -> Scanned
     ensures { let m = machine.now in let sought = begin m.sheet.now m.program.now m.rows.now m.names.now m.nodes.now name.now kind in (result ≡ answer_from 0 sought) × (found.new ≡ written found.old 0 (found_in sought)) }
 {
     let from = first_live(machine.sheet, machine.rows);
@@ -142,7 +142,7 @@ pub fn begin_scan(machine: &Machine, name: &[u8], kind: u32, found: &mut [u16]) 
 
 // All nodes that the waiting tag matches with its attributes: those found before it waited, and those from its cursor on.
 pub fn resume_scan(
-    machine: &Machine,
+    machine: &View,
     name: &[u8],
     input: &[u8],
     outlines: &[u32],

@@ -8,7 +8,7 @@ ghost use Rattle.instructions.specs.Instructions.{row_word, tests_hold, test_end
 use cells::numbers::u16_at;
 use cells::{number_at, part_of};
 use node_tests::attribute_matcher::AttributeMatcher;
-use node_tests::{Tag, tag_test};
+use node_tests::{Tag, attribute_test, tag_test};
 
 // The words of a row, of which two speak of tests: where they stand in the sheet, and how many there are.
 const ROW_WORDS: usize = 8;
@@ -103,8 +103,13 @@ pub fn attributes_pass<'i, 'o>(
 {
     let row = row_of(program, a);
     let from = tests_end(sheet, row.tag_count, row.tests);
+    let AttributeMatcher {
+        input,
+        outlines,
+        html,
+    } = attributes;
     tests_hold(sheet, row.attribute_count, from, |test| {
-        attributes.matches(test)
+        attribute_test(test, input, outlines, html)
     })
 }
 

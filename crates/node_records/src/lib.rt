@@ -170,7 +170,8 @@ impl<'s> Record<'s> {
     }
 }
 
-// The record at `at`.
+// The record at `at`. Not inlined: what it takes of the stack would be taken at each level of a sheet's trees.
+#[inline(never)]
 #[tactic(auto, unfolding(crate::specs::Checks::check_record, crate::specs::Checks::counts_of))]
 pub fn check_record(s: &[u8], at: usize) -> Result<Links, Fault>
     requires { HoldsLengthField s.now }

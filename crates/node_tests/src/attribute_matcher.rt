@@ -39,7 +39,7 @@ impl<'s> AttributeTest<'s> {
     }
 
     // A comparison's body: case byte, length of the name, name, value.
-    fn comparison(operator: Operator, body: &'s [u8]) -> AttributeTest<'s>
+    pub fn comparison(operator: Operator, body: &'s [u8]) -> AttributeTest<'s>
         ensures { attribute_test_of result ≡ comparison operator body.now }
     {
         let end = 2 + number_at(body, 1);

@@ -12,6 +12,8 @@ use nth::nth;
 
 pub mod attribute_matcher;
 
+pub use attribute_matcher::{attribute_test, operator_of, to_unconditional};
+
 // A tag that is tested: its name, and its positions among its siblings and among those of its name, from 1.
 #[derive(Clone, Copy)]
 pub struct Tag<'n> {

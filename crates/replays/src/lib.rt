@@ -46,22 +46,25 @@ fn one_call(
     ensures { Left result × (result.size ≤ length program.new) }
 {
     let call = Call::from(get(input, s.at));
-    if call == Call::Make {
-        return make_call(s, input, program, rows, names, ids, nodes, out);
-    }
-    let mut machine = Machine {
-        sheet: s.sheet(input),
-        program: &program[..s.size],
-        rows,
-        names,
-        ids,
-        nodes,
-    };
     match call {
-        Call::Start => start_call(s, input, &mut machine, out),
-        Call::Attributes => attributes_call(s, input, &mut machine, out),
-        Call::End => end_call(s, input, &mut machine, out),
-        _ => ids_call(s, &machine, out),
+        Call::Make => make_call(s, input, program, rows, names, ids, nodes, out),
+        Call::End => end_call(s, input, &program[..s.size], rows, names, ids, nodes, out),
+        Call::Ids => ids_call(s, input, &program[..s.size], rows, names, ids, nodes, out),
+        Call::Start | Call::Attributes => {
+            let mut machine = Machine {
+                sheet: s.sheet(input),
+                program: &program[..s.size],
+                rows,
+                names,
+                ids,
+                nodes,
+            };
+            if call == Call::Start {
+                start_call(s, input, &mut machine, out)
+            } else {
+                attributes_call(s, input, &mut machine, out)
+            }
+        }
     }
 }
 

@@ -3,6 +3,7 @@
 
 ghost use Rattle.std.specs.Prelude.{◌≡◌, ◌+◌, ◌≤◌, Some};
 ghost use Rattle.stack.specs.Lent.{contents, SameLoans};
+ghost use Rattle.stack.specs.Stores.{stores};
 ghost use Rattle.replies.specs.Replies.{answered, start_turn, attributes_turn, end_turn, saying};
 
 use reply_lines::{put_popped, put_reply};
@@ -42,26 +43,23 @@ pub fn answer_attributes(
 }
 
 // The ids of the popped are not printed.
-pub fn answer_end(machine: &mut Machine, name: &[u8], out: &mut [u8], at: usize) -> usize
+// Kept as it is: who has names, ids and nodes only to read can call it too, and a Machine has them to write.
+pub fn answer_end(
+    sheet: &[u8],
+    program: &[u32],
+    rows: &mut [u32],
+    names: &[u8],
+    ids: &[u64],
+    nodes: &[u16],
+    name: &[u8],
+    out: &mut [u8],
+    at: usize,
+) -> usize
     requires { at ≤ 4294967296 }
-    ensures nodes_after { answered (Some result) out.new (contents machine.new) ≡ saying (end_turn machine.old.sheet.now machine.old.program.now (contents machine.old) name.now) out.old at }
+    ensures nodes_after { answered (Some result) out.new (stores rows.new names.now ids.now nodes.now) ≡ saying (end_turn sheet.now program.now (stores rows.old names.now ids.now nodes.now) name.now) out.old at }
     ensures upper_bound { result ≤ at + 4096 }
-    ensures lent { SameLoans machine.old machine.new }
 {
     let mut popped = [0; 512];
-    let rows = &mut *machine.rows;
-    let names = &mut *machine.names;
-    let ids = &mut *machine.ids;
-    let nodes = &mut *machine.nodes;
-    let answer = ends::end(
-        machine.sheet,
-        machine.program,
-        rows,
-        names,
-        ids,
-        nodes,
-        name,
-        &mut popped,
-    );
+    let answer = ends::end(sheet, program, rows, names, ids, nodes, name, &mut popped);
     put_popped(out, at, answer)
 }

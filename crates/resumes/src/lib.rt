@@ -14,7 +14,7 @@ use course::{has_content, resume_scan};
 use refusals::Refusal;
 use shapes::check_machine;
 use stack::HELD_KIND;
-use stack::machine::Machine;
+use stack::machine::{Machine, View};
 use tags::finish_held;
 use waiting::held_name;
 use weighing::check_attributes;
@@ -34,7 +34,14 @@ fn attributes_named(
     ensures lent { SameLoans machine.old machine.new }
 {
     let mut found = [0; 1024];
-    let n = resume_scan(machine, name, input, outlines, &mut found);
+    let view = View {
+        sheet: machine.sheet,
+        program: machine.program,
+        rows: machine.rows,
+        names: machine.names,
+        nodes: machine.nodes,
+    };
+    let n = resume_scan(&view, name, input, outlines, &mut found);
     let rows = &mut *machine.rows;
     let content = has_content(get(rows, HELD_KIND), self_closing);
     finish_held(machine, name, content, &found[0..n])

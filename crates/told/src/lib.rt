@@ -1,12 +1,11 @@
 //! What a C caller is told of an answer of the machine (01, sections 2 and 8): the answer as five numbers.
 #![tactic(auto)]
 
-ghost use Rattle.std.specs.Prelude.{◌≡◌};
-ghost use Rattle.refusals.specs.Numbers.{number};
+ghost use Rattle.std.specs.Prelude.{◌≡◌, get_or};
 ghost use Rattle.accepting.specs.Accepting.{reply_of};
 ghost use Rattle.making.specs.Making.{made_of};
 ghost use Rattle.ends.specs.Ends.{popped_of, top_of};
-ghost use Rattle.told.specs.Told.{made_told, refused_told, reply_told, popped_told, top_reply_told};
+ghost use Rattle.told.specs.Told.{told, made_told, refused_told, reply_told, popped_told, top_reply_told};
 
 use accepting::Answer;
 use making::Unmade;
@@ -32,13 +31,27 @@ const NOTHING: Told = Told {
     high: 0,
 };
 
-// A refusal of a call, by its number.
-fn refused(refusal: Refusal) -> Told
-    ensures { result ≡ refused_told (number refusal) 0 }
-{
-    Told {
-        refusal: refusal.number(),
-        ..NOTHING
+impl Told {
+    /// A refusal, by any number and place.
+    pub fn refused(number: u32, place: u64) -> Told
+        ensures { result ≡ refused_told number place }
+    {
+        Told {
+            refusal: number,
+            value: place,
+            ..NOTHING
+        }
+    }
+
+    /// The same with id words beside it.
+    pub fn with_ids(self, ids: [u64; 2]) -> Told
+        ensures { result ≡ told self.kind self.refusal self.value (get_or ids 0 0) (get_or ids 1 0) }
+    {
+        Told {
+            low: ids[0],
+            high: ids[1],
+            ..self
+        }
     }
 }
 
@@ -50,12 +63,10 @@ impl From<Result<(), Unmade>> for Told {
     fn from(made: Result<(), Unmade>) -> Told {
         match made {
             Ok(()) => Told { kind: 1, ..NOTHING },
-            Err(Unmade::Sheet(fault)) => Told {
-                refusal: u32::from(fault.refusal.number()),
-                value: fault.place as u64,
-                ..NOTHING
-            },
-            Err(Unmade::Refused(refusal)) => refused(refusal),
+            Err(Unmade::Sheet(fault)) => {
+                Told::refused(u32::from(fault.refusal.number()), fault.place as u64)
+            }
+            Err(Unmade::Refused(refusal)) => Told::refused(refusal.number(), 0),
         }
     }
 }
@@ -67,15 +78,16 @@ impl From<Result<Answer, Refusal>> for Told {
     #[tactic(auto, unfolding(crate::specs::Told::reply_told, crate::specs::Told::answer_told))]
     fn from(reply: Result<Answer, Refusal>) -> Told {
         match reply {
-            Ok(Answer::Match { ids, content }) => Told {
-                kind: 2,
-                value: content as u64,
-                low: ids[0],
-                high: ids[1],
-                ..NOTHING
-            },
+            Ok(Answer::Match { ids, content }) => {
+                let matched = Told {
+                    kind: 2,
+                    value: content as u64,
+                    ..NOTHING
+                };
+                matched.with_ids(ids)
+            }
             Ok(Answer::Attributes) => Told { kind: 3, ..NOTHING },
-            Err(refusal) => refused(refusal),
+            Err(refusal) => Told::refused(refusal.number(), 0),
         }
     }
 }
@@ -92,7 +104,7 @@ impl From<Result<usize, Refusal>> for Told {
                 value: count as u64,
                 ..NOTHING
             },
-            Err(refusal) => refused(refusal),
+            Err(refusal) => Told::refused(refusal.number(), 0),
         }
     }
 }
@@ -104,14 +116,9 @@ impl From<Result<Option<[u64; 2]>, Refusal>> for Told {
     #[tactic(auto, unfolding(crate::specs::Told::top_reply_told, crate::specs::Told::top_told))]
     fn from(top: Result<Option<[u64; 2]>, Refusal>) -> Told {
         match top {
-            Ok(Some(words)) => Told {
-                kind: 5,
-                low: words[0],
-                high: words[1],
-                ..NOTHING
-            },
+            Ok(Some(words)) => Told { kind: 5, ..NOTHING }.with_ids(words),
             Ok(None) => Told { kind: 6, ..NOTHING },
-            Err(refusal) => refused(refusal),
+            Err(refusal) => Told::refused(refusal.number(), 0),
         }
     }
 }

@@ -6,7 +6,7 @@ ghost use Rattle.stack.specs.Lent.{contents, SameLoans};
 ghost use Rattle.trace.specs.Run.{ran, answers_from, feed_of};
 
 use answers::answer;
-use block_ends::{Fed, Halt, bad_trace, cut_short, first_record};
+use block_ends::{Fed, Halt, bad_trace, cut_short, first_record, no_version};
 use cells::part_of;
 use records::record_end;
 use stack::machine::Machine;
@@ -62,9 +62,8 @@ pub fn feed(machine: &mut Machine, block: &[u8], last: bool, place: u64, out: &m
 {
     match first_record(block, place) {
         Some(first) => answer_records(machine, block, first, last, place, out),
-        // Only the version byte itself may still come.
         None => {
-            let faulty = last || !block.is_empty();
+            let faulty = no_version(block, last);
             cut_short(out, 0, 0, 0, faulty)
         }
     }

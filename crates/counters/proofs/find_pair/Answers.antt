@@ -1,5 +1,5 @@
 use Rattle.std.proofs.Common.{ℕ, sym, ap, ◌∙◌}
-use Rattle.counters.proofs.Loops.{found, pair-start, pair-here, pair-later, pair-none}
+use Rattle.counters.proofs.Loops.{found, pair-start, pair-here, pair-later, pair-none, pair-place}
 use Rattle.counters.proofs.find_pair.Goals as goal
 
 pub loop-i-init : goal.loop-i-init
@@ -13,3 +13,9 @@ loop-i-preserved c = c.loop-i.invariant ∙ ap (λ (p : ℕ). found p c.number_a
 
 pub returns-clause-pair : goal.returns-clause-pair
 returns-clause-pair c = pair-none _ _ _ _ _ c.loop-i-test.false ∙ sym c.loop-i.invariant
+
+pub returns-then-holds_name-clause-place : goal.returns-then-holds_name-clause-place
+returns-then-holds_name-clause-place c = pair-place _ _ _ _ (returns-then-holds_name-clause-pair c)
+
+pub returns-clause-place : goal.returns-clause-place
+returns-clause-place c = pair-place _ _ _ _ (returns-clause-pair c)

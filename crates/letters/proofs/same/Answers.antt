@@ -1,16 +1,24 @@
-use Rattle.std.proofs.Common.{rules, tests, nat_eq, ◌∙◌, sym}
-use borrow.Author.Tests.{ne_eqb}
-use Rattle.std.proofs.lemmas.Iterator.{YieldsList-from_slice, YieldsList-from_zip}
-use Rattle.std.proofs.lemmas.Iterator.Search.{all_from_yields_List}
-use Rattle.letters.specs.Bytes.{fold_byte}
-use Rattle.letters.specs.BytesLaws.{same-long, same-zip}
+use mathlib.Core.Path.{refl, sym, ◌∙◌}
+use native.Mathlib.Omega.{arith}
+use borrow.Author.Tests.{eq-eqb, ne_eqb}
+use Rattle.letters.specs.BytesLaws.{same-long, same_step, same_end}
 use Rattle.letters.proofs.same.Goals as goal
 
 pub returns-then-a-b : goal.returns-then-a-b
-returns-then-a-b c =
-    all_from_yields_List (λ p. nat_eq (fold_byte c.args.f p.0) (fold_byte c.args.g p.1)) c.all.new.self _ c.all.result c.all.ensures.ran
-    (YieldsList-from_zip (YieldsList-from_slice c.args.a.now cc) (YieldsList-from_slice c.args.b.now cc)) (λ x b q k. search (rules, tests))
-    ∙ same-zip c.args.f c.args.g c.args.a.now c.args.b.now c.if-a-b.true
+returns-then-a-b c = sym (same-long _ _ _ _ c.if-a-b.true)
 
-pub returns-else-a-b : goal.returns-else-a-b
-returns-else-a-b c = ne_eqb _ _ c.if-a-b.false ∙ sym (same-long _ _ _ _ c.if-a-b.false)
+pub loop-i-init : goal.loop-i-init
+loop-i-init c = (omega arith, (c.if-a-b.false, refl))
+
+pub returns-then-fold_byte : goal.returns-then-fold_byte
+returns-then-fold_byte c = let e1 = c.fold_byte.ensures in
+    let e2 = c.fold_byte-in-loop-i.ensures in
+    sym (c.loop-i.invariant.1.1 ∙ same_step _ _ _ _ c.loop-i.i (omega arith) (omega arith) ∙ rw (ne_eqb _ _ (λ e. c.if-fold_byte.true (e1 ∙ e ∙ sym e2))))
+
+pub loop-i-preserved : goal.loop-i-preserved
+loop-i-preserved c = let e1 = c.fold_byte.ensures in
+    let e2 = c.fold_byte-in-loop-i.ensures in
+    (omega arith, (c.loop-i.invariant.1.0, c.loop-i.invariant.1.1 ∙ same_step _ _ _ _ c.loop-i.i (omega arith) (omega arith) ∙ rw (eq-eqb _ _ (sym e1 ∙ c.if-fold_byte.false ∙ e2))))
+
+pub returns : goal.returns
+returns c = sym (c.loop-i.invariant.1.1 ∙ same_end _ _ _ _ c.loop-i.i (omega arith) (omega arith))
