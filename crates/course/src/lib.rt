@@ -17,7 +17,6 @@ use names::name_key;
 use node_tests::Tag;
 use node_tests::attribute_matcher::AttributeMatcher;
 use shapes::counts_types;
-use stack::machine::View;
 use stack::{
     ANCESTORS, ANCESTORS_TOP, HELD_AT, HELD_KIND, HELD_SLOT, HELD_STAGE, HELD_STOP, OPENS,
     PARENTS_MARK, PARENTS_TOP, ROW, ROWS,
@@ -98,6 +97,16 @@ fn held_cursor(rows: &[u32]) -> Cursor
     }
 }
 
+// What a scan reads of a machine: all but its ids, and none of it to write.
+#[derive(Clone, Copy)]
+struct View<'m> {
+    sheet: &'m [u8],
+    program: &'m [u32],
+    rows: &'m [u32],
+    names: &'m [u8],
+    nodes: &'m [u16],
+}
+
 // The scan of the tag that comes now or waits.
 fn scan_of<'m, 'n>(machine: &View<'m>, name: &'n [u8]) -> Scan<'m, 'm, 'n>
     ensures sheet { result.sheet.now ≡ machine.now.sheet.now }
@@ -126,9 +135,26 @@ fn scan_of<'m, 'n>(machine: &View<'m>, name: &'n [u8]) -> Scan<'m, 'm, 'n>
 }
 
 // The scan of a tag that comes now: HTML with the tag alone; SVG and MathML wait before the first instruction.
-pub fn begin_scan(machine: &View, name: &[u8], kind: u32, found: &mut [u16]) -> Scanned
-    ensures { let m = machine.now in let sought = begin m.sheet.now m.program.now m.rows.now m.names.now m.nodes.now name.now kind in (result ≡ answer_from 0 sought) × (found.new ≡ written found.old 0 (found_in sought)) }
+// Kept as it is: who has the stores only to read can call it too, and a Machine has them to write.
+pub fn begin_scan(
+    sheet: &[u8],
+    program: &[u32],
+    rows: &[u32],
+    names: &[u8],
+    nodes: &[u16],
+    name: &[u8],
+    kind: u32,
+    found: &mut [u16],
+) -> Scanned
+    ensures { (result ≡ answer_from 0 (begin sheet.now program.now rows.now names.now nodes.now name.now kind)) × (found.new ≡ written found.old 0 (found_in (begin sheet.now program.now rows.now names.now nodes.now name.now kind))) }
 {
+    let machine = View {
+        sheet,
+        program,
+        rows,
+        names,
+        nodes,
+    };
     let from = first_live(machine.sheet, machine.rows);
     if !is_html(kind) {
         return Scanned {
@@ -136,23 +162,35 @@ pub fn begin_scan(machine: &View, name: &[u8], kind: u32, found: &mut [u16]) -> 
             stopped_at: Some(from),
         };
     }
-    let scan = scan_of(machine, name);
+    let scan = scan_of(&machine, name);
     scan.by_tag(from, u16_at(machine.sheet, 5) as u16, found)
 }
 
 // All nodes that the waiting tag matches with its attributes: those found before it waited, and those from its cursor on.
+// Kept as it is: as for begin_scan.
 pub fn resume_scan(
-    machine: &View,
+    sheet: &[u8],
+    program: &[u32],
+    rows: &[u32],
+    names: &[u8],
+    nodes: &[u16],
     name: &[u8],
     input: &[u8],
     outlines: &[u32],
     found: &mut [u16],
 ) -> usize
-    requires { (get_or machine.now.rows.now 7 0 ≤ node_count machine.now.sheet.now) × (node_count machine.now.sheet.now ≤ 1024) }
-    ensures { let m = machine.now in let all = resumed m.sheet.now m.program.now m.rows.now m.names.now m.nodes.now name.now input.now outlines.now in (result ≡ length all) × (found.new ≡ written found.old 0 all) }
+    requires { (get_or rows.now 7 0 ≤ node_count sheet.now) × (node_count sheet.now ≤ 1024) }
+    ensures { (result ≡ length (resumed sheet.now program.now rows.now names.now nodes.now name.now input.now outlines.now)) × (found.new ≡ written found.old 0 (resumed sheet.now program.now rows.now names.now nodes.now name.now input.now outlines.now)) }
 {
+    let machine = View {
+        sheet,
+        program,
+        rows,
+        names,
+        nodes,
+    };
     let count = held_found(machine.rows, machine.nodes, found);
-    let scan = scan_of(machine, name);
+    let scan = scan_of(&machine, name);
     let html = is_html(get(machine.rows, HELD_KIND));
     let attributes = AttributeMatcher::new(input, outlines, html);
     let from = held_cursor(machine.rows);

@@ -14,7 +14,7 @@ use course::{has_content, resume_scan};
 use refusals::Refusal;
 use shapes::check_machine;
 use stack::HELD_KIND;
-use stack::machine::{Machine, View};
+use stack::machine::Machine;
 use tags::finish_held;
 use waiting::held_name;
 use weighing::check_attributes;
@@ -34,15 +34,20 @@ fn attributes_named(
     ensures lent { SameLoans machine.old machine.new }
 {
     let mut found = [0; 1024];
-    let view = View {
-        sheet: machine.sheet,
-        program: machine.program,
-        rows: machine.rows,
-        names: machine.names,
-        nodes: machine.nodes,
-    };
-    let n = resume_scan(&view, name, input, outlines, &mut found);
     let rows = &mut *machine.rows;
+    let names = &mut *machine.names;
+    let nodes = &mut *machine.nodes;
+    let n = resume_scan(
+        machine.sheet,
+        machine.program,
+        rows,
+        names,
+        nodes,
+        name,
+        input,
+        outlines,
+        &mut found,
+    );
     let content = has_content(get(rows, HELD_KIND), self_closing);
     finish_held(machine, name, content, &found[0..n])
 }

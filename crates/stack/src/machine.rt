@@ -10,13 +10,3 @@ pub struct Machine<'m> {
     pub ids: &'m mut [u64],
     pub nodes: &'m mut [u16],
 }
-
-/// What a scan reads of a machine: all but its ids, and none of it to write.
-#[derive(Clone, Copy)]
-pub struct View<'m> {
-    pub sheet: &'m [u8],
-    pub program: &'m [u32],
-    pub rows: &'m [u32],
-    pub names: &'m [u8],
-    pub nodes: &'m [u16],
-}

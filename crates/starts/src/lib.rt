@@ -13,7 +13,7 @@ use course::{begin_scan, kind_of};
 use names::is_void;
 use refusals::Refusal;
 use shapes::{check_machine, is_esi_on};
-use stack::machine::{Machine, View};
+use stack::machine::Machine;
 use tags::start_found;
 use weighing::{are_pairs_full, check_tag, lower_into};
 
@@ -30,14 +30,17 @@ fn start_lowered(machine: &mut Machine, name: &[u8], kind: u32) -> Result<Answer
         return Err(Refusal::TooManyTypes);
     }
     let mut found = [0; 1024];
-    let view = View {
-        sheet: machine.sheet,
-        program: machine.program,
-        rows: machine.rows,
-        names: machine.names,
-        nodes: machine.nodes,
-    };
-    let scanned = begin_scan(&view, name, kind, &mut found);
+    let nodes = &mut *machine.nodes;
+    let scanned = begin_scan(
+        machine.sheet,
+        machine.program,
+        rows,
+        names,
+        nodes,
+        name,
+        kind,
+        &mut found,
+    );
     start_found(
         machine,
         name,
