@@ -40,13 +40,16 @@ fn answer_record(
         Record::End => {
             let name = part_of(body, 1, body.len());
             let rows = &mut *machine.rows;
+            let names = &mut *machine.names;
+            let ids = &mut *machine.ids;
+            let nodes = &mut *machine.nodes;
             answer_end(
                 machine.sheet,
                 machine.program,
                 rows,
-                machine.names,
-                machine.ids,
-                machine.nodes,
+                names,
+                ids,
+                nodes,
                 name,
                 out,
                 at,
