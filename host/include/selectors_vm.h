@@ -6,7 +6,7 @@
  * Ownership. Every slice is the caller's. A call borrows it until it returns and keeps nothing: no memory is allocated, no pointer is
  * stored, there is no state outside the slices. Machines with stores of their own may be used in different threads at a time.
  *
- * Stack. selectors_vm_fresh takes at most 10 KiB, _start and _attributes 3 KiB, _end and _id_set 64 bytes (tools/stack).
+ * Stack. selectors_vm_fresh takes at most 8 KiB, _start and _attributes 3 KiB, _end and _id_set 64 bytes (tools/stack).
  *
  * Stores of a machine, at least so many elements (longer ones are taken; a machine neither reads nor writes past the size):
  *   program  SELECTORS_VM_PLACE for each node that the sheet announces in its bytes 5 and 6 (fewer: refusal 15)
