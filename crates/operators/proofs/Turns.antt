@@ -24,6 +24,11 @@ empty-is (x ∷ xs) = eqb-suc-zero (length xs)
 pub ends-short : (f : Bool) (v o : List ℕ) → length v < length o → same_bytes f f (drop (length v - length o) v) o ≡ false
 ends-short f v o h = same-long f f _ o (λ e. omega (arith, length-drop (length v - length o) v))
 
+-- a value shorter than the operand does not begin with it
+pub short-begins : (f : Bool) (v o : List ℕ) → length v < length o → begins_with f v o ≡ false
+unfolding begins_with
+short-begins f v o h = rw (take_all (length o) v (omega arith)) (same-long f f v o (λ e. omega arith))
+
 -- a part to the end, as the code's `&v[a..]` has it
 pub rest-is : (v : List ℕ) (a : ℕ) → take (length v - a) (drop a v) ≡ drop a v
 rest-is v a = take_all (length v - a) (drop a v) (omega (arith, length-drop a v))

@@ -4,7 +4,6 @@
 ghost use Rattle.std.specs.Prelude.{◌≡◌};
 ghost use Rattle.operators.specs.Operators.{begins_with, prefix_holds, suffix_holds, dash_holds, substring_holds, includes_holds, operator_holds};
 
-use cells::part_of;
 use letters::{is_attr_whitespace, same};
 
 #[derive(Clone, Copy)]
@@ -22,7 +21,10 @@ pub enum Operator {
 pub fn begins(value: &[u8], operand: &[u8], f: bool) -> bool
     ensures { result ≡ begins_with f value.now operand.now }
 {
-    same(part_of(value, 0, operand.len()), f, operand, f)
+    if value.len() < operand.len() {
+        return false;
+    }
+    same(&value[..operand.len()], f, operand, f)
 }
 
 // [att^=val]
